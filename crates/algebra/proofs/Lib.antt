@@ -1,0 +1,10 @@
+-- The crate's files of laws, in the order in which each uses those before it.
+pub mod Ring
+pub mod Order
+pub mod Expression
+pub mod Polynomial
+pub mod Solver
+pub mod Certificate
+pub mod Bound
+pub mod Machine
+pub mod Examples

@@ -1,0 +1,79 @@
+-- What the machine reads is the whole number that is meant, and that number is small: `Reads v z n` says that the value v, as code
+-- computes it, is z, and that |z| ≤ n.
+--
+-- A signed value that is stored at a width w and read back stands in a goal as `toZ w (ofZ w v)`: its bits, read as a number.
+-- Build a `Reads` along the code, from the leaves: `parameter` for a parameter, `element` for an element of a slice, `result` for what
+-- a call returned, `exact` for a number that is not stored; `sum`, `difference`, `product` for the operations; and `held` where
+-- a result was stored. Then `in-range` answers the need that an operation does not overflow, and the field `is` rewrites the
+-- machine's value to the whole number. The bounds are numbers that compute: `tt` answers each test that a bound is below
+-- 2 ^ hbits w, where hbits w is the number of bits of w without the sign.
+--
+-- Example (`product-in-range` of Examples.antt): the need of the product (a − b) · c at 64 bits, where a − b was stored.
+--
+--   product-in-range : {a b c : ℤ} → Within 1000000 a → Within 1000000 b → Within 1000000 c → SFits w64 (toZ w64 (ofZ w64 (a -ℤ b)) *ℤ c)
+--   product-in-range a b c = in-range (product (held w64 (difference (exact a) (exact b)) tt) (exact c)) tt
+use mathlib.Core.Path.{_≡_, refl, sym, _∙_, subst}
+use mathlib.Core.List.{List}
+use Prim.Native.Nat.{ℕ, _+_, _*_, _^_, _≤_, _<_}
+use native.Mathlib.Omega.{arith}
+use lib.Dec.{T, ltb, ltb→lt}
+use lib.IntN.{ℤ, pos, negsuc, natAbs, _+ℤ_, _-ℤ_, _*ℤ_}
+use lib.ListN.{getD}
+use lib.Signed.{mag}
+use mir.Syntax.{Width}
+use mir.Val.{SFits, toZ, ofZ, hbits}
+use mir.ValLaws.{toZ-ofZ}
+use Rattle.algebra.proofs.Bound.{Within, within-add, within-sub, within-mul}
+
+-- the value v is the whole number z, and |z| ≤ n
+pub record Reads (v z : ℤ) (n : ℕ) : Type 0 where
+  pub is : v ≡ z
+  pub within : Within n z
+
+-- ---- what a reading tells
+
+-- the value itself is small
+pub size : {v z : ℤ} {n : ℕ} → Reads v z n → Within n v
+size {n} r = subst (λ (x : ℤ). Within n x) (sym (r .is)) (r .within)
+
+mag-le-abs : (z : ℤ) → mag z ≤ natAbs z
+mag-le-abs (pos n) = omega arith
+mag-le-abs (negsuc n) = omega arith
+
+-- the value fits the width w
+pub in-range : {w : Width} {v z : ℤ} {n : ℕ} → Reads v z n → T (ltb n (2 ^ hbits w)) → SFits w v
+in-range {w} {v} {n} r t = record { sfits = omega (arith, mag-le-abs v, size r .abs, ltb→lt n (2 ^ hbits w) t) }
+
+-- ---- values
+
+-- a number that is not stored
+pub exact : {z : ℤ} {n : ℕ} → Within n z → Reads z z n
+exact h = record { is = refl; within = h }
+
+-- a value that was stored at the width w, and read back
+pub held : (w : Width) {v z : ℤ} {n : ℕ} → Reads v z n → T (ltb n (2 ^ hbits w)) → Reads (toZ w (ofZ w v)) z n
+held w {v} r t = record { is = toZ-ofZ w v (in-range r t) ∙ r .is; within = r .within }
+
+-- a parameter, which is known to fit
+pub parameter : {w : Width} {z : ℤ} {n : ℕ} → SFits w z → Within n z → Reads (toZ w (ofZ w z)) z n
+parameter {w} {z} f h = record { is = toZ-ofZ w z f; within = h }
+
+-- element k of a slice l
+pub element : (w : Width) (l : List ℤ) (k : ℕ) {n : ℕ} → mag (getD l k (pos 0)) < 2 ^ hbits w → Within n (getD l k (pos 0)) → Reads (toZ w (ofZ w (getD l k (pos 0)))) (getD l k (pos 0)) n
+element w l k f h = parameter (record { sfits = f }) h
+
+-- the result r of a call, which is known to be z
+pub result : (w : Width) {r z : ℤ} {n : ℕ} → r ≡ z → Within n r → T (ltb n (2 ^ hbits w)) → Reads (toZ w (ofZ w r)) z n
+result w {n} e h t = held w (record { is = e; within = subst (λ (x : ℤ). Within n x) e h }) t
+
+-- ---- operations
+
+-- on two readings: the bounds add up in a sum and in a difference, and multiply in a product
+pub sum : {v z v′ z′ : ℤ} {m n : ℕ} → Reads v z m → Reads v′ z′ n → Reads (v +ℤ v′) (z +ℤ z′) (m + n)
+sum r s = record { is = (λ i. r .is i +ℤ s .is i); within = within-add (r .within) (s .within) }
+
+pub difference : {v z v′ z′ : ℤ} {m n : ℕ} → Reads v z m → Reads v′ z′ n → Reads (v -ℤ v′) (z -ℤ z′) (m + n)
+difference r s = record { is = (λ i. r .is i -ℤ s .is i); within = within-sub (r .within) (s .within) }
+
+pub product : {v z v′ z′ : ℤ} {m n : ℕ} → Reads v z m → Reads v′ z′ n → Reads (v *ℤ v′) (z *ℤ z′) (m * n)
+product r s = record { is = (λ i. r .is i *ℤ s .is i); within = within-mul (r .within) (s .within) }

@@ -1,0 +1,11 @@
+// Laws of whole numbers, for the proofs of other crates. The crate has no function: all it holds is in proofs/.
+//
+//   Ring         ring laws that the kit lacks: distributivity, negated products, another order of sums and products
+//   Order        order laws: signs of differences, sums, products and squares; a positive factor taken out
+//   Expression   polynomial expressions as data, and their values
+//   Polynomial   the normal form of an expression, and the proof that it has the same value
+//   Solver       identities by computation: `solve`, `ring`
+//   Certificate  inequalities and equations by a certificate: `prove≤`, `prove<`, `prove≡`, `prove⊥`
+//   Bound        bounds of absolute values: `Within n z` says |z| ≤ n
+//   Machine      what the machine reads is the whole number meant, and small: answers to needs that nothing overflows
+//   Examples     worked examples of each of these, all checked

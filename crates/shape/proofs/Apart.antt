@@ -1,0 +1,76 @@
+-- Apart by a functional: whole numbers c1 .. ck and m such that c·a + m ≤ 0 at every corner a of one shape and > 0 at
+-- every corner of the other leave no point in common. Every "no" of the tests is an instance of `apart`. Assumes nothing.
+use mathlib.Core.Path.{_≡_, refl, sym, _∙_, ap, ap₂, subst}
+use mathlib.Core.List.{List, [], _∷_}
+use Prim.Native.Nat.{ℕ, suc, _+_, _≤_}
+use native.Mathlib.Omega.{arith}
+use lib.ListN.{length}
+use lib.IntN.{ℤ, pos, negsuc, _+ℤ_, _*ℤ_}
+use lib.Signed.{_≤ℤ_, _<ℤ_}
+use Rattle.algebra.proofs.Expression.{var, lit, _⊠_}
+use Rattle.algebra.proofs.Order.{0<-pos}
+use Rattle.algebra.proofs.Certificate.{_≦_, _≺_, _≐_, hyp, eqn, _⊕_, prove⊥}
+use Rattle.shape.specs.Points.{Point, Shape, coord}
+use Rattle.shape.specs.Sharing.{total, weigh, PointOf, Share}
+use Rattle.shape.proofs.Weights.{Every, weigh-add, weigh-scale, weigh-const, weigh-zero, weigh-le}
+
+-- c·a, the first number of c going with coordinate i.
+abbrev pub dotFrom : ℕ → List ℤ → Point → ℤ
+dotFrom i [] a = pos 0
+dotFrom i (c ∷ cs) a = c *ℤ coord i a +ℤ dotFrom (suc i) cs a
+
+-- The functional c·a + m.
+abbrev pub functional : List ℤ → ℤ → Point → ℤ
+functional cs m a = dotFrom 0 cs a +ℤ m
+
+-- ---- at a point of a shape the functional is fixed by the point's name
+module _ {n : ℕ} {P : Shape} {s : ℕ} {x : Point} (p : PointOf n P s x) where
+  weigh-dot : (i : ℕ) (cs : List ℤ) → i + length cs ≤ n → weigh (dotFrom i cs) (p .weights) P ≡ dotFrom i cs x
+  weigh-dot i [] l = weigh-zero (p .weights) P
+  weigh-dot i (c ∷ cs) l =
+      weigh-add (λ a. c *ℤ coord i a) (dotFrom (suc i) cs) (p .weights) P
+      ∙ ap₂ _+ℤ_
+      (weigh-scale c (coord i) (p .weights) P ∙ ap (λ (z : ℤ). c *ℤ z) (p .mixed i (omega arith)))
+      (weigh-dot (suc i) cs (omega arith))
+
+  pub weigh-functional : (cs : List ℤ) (m : ℤ) → length cs ≤ n → weigh (functional cs m) (p .weights) P ≡ dotFrom 0 cs x +ℤ pos s *ℤ m
+  weigh-functional cs m l =
+      weigh-add (dotFrom 0 cs) (λ a. m) (p .weights) P
+      ∙ ap₂ _+ℤ_
+      (weigh-dot 0 cs (omega arith))
+      (weigh-const m (p .weights) P (p .each) ∙ ap (λ (t : ℕ). pos t *ℤ m) (p .sum))
+
+  -- at most zero at every corner: at most zero at the point
+  low-point : (cs : List ℤ) (m : ℤ) → length cs ≤ n → Every (λ a. functional cs m a ≤ℤ pos 0) P → (dotFrom 0 cs x +ℤ pos s *ℤ m) ≤ℤ pos 0
+  low-point cs m l h =
+      subst (λ (z : ℤ). z ≤ℤ pos 0) (weigh-functional cs m l)
+      (subst (λ (z : ℤ). weigh (functional cs m) (p .weights) P ≤ℤ z) (weigh-zero (p .weights) P)
+      (weigh-le (functional cs m) (λ a. pos 0) (p .weights) P h))
+
+  -- at least one at every corner: at least s at the point
+  high-point : (cs : List ℤ) (m : ℤ) → length cs ≤ n → Every (λ a. pos 1 ≤ℤ functional cs m a) P → (pos s *ℤ pos 1) ≤ℤ (dotFrom 0 cs x +ℤ pos s *ℤ m)
+  high-point cs m l h =
+      subst (λ (z : ℤ). (pos s *ℤ pos 1) ≤ℤ z) (weigh-functional cs m l)
+      (subst (λ (z : ℤ). z ≤ℤ weigh (functional cs m) (p .weights) P) (weigh-const (pos 1) (p .weights) P (p .each) ∙ ap (λ (t : ℕ). pos t *ℤ pos 1) (p .sum))
+      (weigh-le (λ a. pos 1) (functional cs m) (p .weights) P h))
+
+one-le : {z : ℤ} → pos 0 <ℤ z → pos 1 ≤ℤ z
+one-le {z = pos n} h = record { le = h .lt }
+one-le {z = negsuc n} h = absurd (h .lt)
+
+every-one : (f : Point → ℤ) (Q : Shape) → Every (λ a. pos 0 <ℤ f a) Q → Every (λ a. pos 1 ≤ℤ f a) Q
+every-one f [] h = tt
+every-one f (a ∷ Q) h = (one-le (h .0), every-one f Q (h .1))
+
+pub apart : {n : ℕ} {P Q : Shape} (cs : List ℤ) (m : ℤ) → length cs ≤ n →
+    Every (λ a. functional cs m a ≤ℤ pos 0) P → Every (λ a. pos 0 <ℤ functional cs m a) Q → Share n P Q → ⊥
+apart {Q} cs m l below above h =
+    clash (dotFrom 0 cs (h .x) +ℤ pos (h .s) *ℤ m) (pos (h .s))
+    (low-point (h .of-first) cs m l below)
+    (high-point (h .of-second) cs m l (every-one (functional cs m) Q above))
+    (0<-pos (h .s) (h .of-first .some))
+  where
+    clash : (z s : ℤ) → z ≤ℤ pos 0 → (s *ℤ pos 1) ≤ℤ z → pos 0 <ℤ s → ⊥
+    clash z s =
+        prove⊥ (z ∷ s ∷ []) ((var 0 ≦ lit (pos 0)) ∷ (var 1 ⊠ lit (pos 1) ≦ var 0) ∷ (lit (pos 0) ≺ var 1) ∷ [])
+        (hyp 0 ⊕ hyp 1 ⊕ hyp 2) tt tt refl

@@ -1,0 +1,10 @@
+-- The laws of shapes, each proved once over the number of coordinates and, where it makes sense, of corners.
+pub mod Weights
+pub mod Trading
+pub mod Apart
+pub mod Meeting
+pub mod Symbols
+pub mod SignLaws
+pub mod Dependence
+pub mod FlatLaws
+pub mod Bench
