@@ -1,0 +1,137 @@
+// The bench table of document 01, as the compiled calls answer it: one line a row, as far as the calls go that there are so
+// far. What it prints is compared with the file `stdout` beside this folder.
+ghost use mathlib.Core.Path.{_≡_};
+ghost use lib.IntN.{natAbs};
+use libc::STDOUT_FILENO;
+use predicate::Refusal;
+use predicate::Sign;
+use predicate::SignAnswer;
+use predicate::ValueAnswer;
+
+// P11's L, the end of the grid.
+const L: i32 = 524_288;
+
+fn say(text: &[u8]) {
+    io::write_all(STDOUT_FILENO, text);
+}
+
+fn say_count(n: u64) {
+    io::print_decimal(STDOUT_FILENO, n);
+}
+
+// The size of a whole number, whatever its sign. The least i64 has no opposite among the i64, so one is added first.
+fn size_of(z: i64) -> u64
+    ensures { λ r. ⌜ r ≡ natAbs z ⌝ }
+{
+    if z < 0 {
+        (-(z + 1)) as u64 + 1
+    } else {
+        z as u64
+    }
+}
+
+fn say_whole(z: i64) {
+    if z < 0 {
+        say(b"-");
+    }
+    say_count(size_of(z));
+}
+
+fn say_refusal(why: Refusal) {
+    say(b"refused, number ");
+    say_count(why.number as u64);
+    say(b", side ");
+    say_count(why.side as u64);
+    say(b", place ");
+    say_count(why.place as u64);
+}
+
+fn say_sign(answer: SignAnswer) {
+    match answer {
+        SignAnswer::Refused(why) => say_refusal(why),
+        SignAnswer::Signed(sign) => match sign {
+            Sign::Negative => say(b"-1"),
+            Sign::Zero => say(b"0"),
+            Sign::Positive => say(b"1"),
+        },
+    }
+}
+
+fn say_value(answer: ValueAnswer) {
+    match answer {
+        ValueAnswer::Refused(why) => say_refusal(why),
+        ValueAnswer::Valued(z) => say_whole(z),
+    }
+}
+
+fn turn_row(row: &[u8], points: &[i32]) {
+    say(row);
+    say(b": sign ");
+    say_sign(predicate::turn_sign(points));
+    say(b"; value ");
+    say_value(predicate::turn_value(points));
+    say(b"\n");
+}
+
+fn side_row(row: &[u8], points: &[i32]) {
+    say(row);
+    say(b": sign ");
+    say_sign(predicate::side_sign(points));
+    say(b"; value ");
+    say_value(predicate::side_value(points));
+    say(b"\n");
+}
+
+// The rows of document 01 that the sign calls answer.
+fn sign_rows() {
+    turn_row(b"P10 turn of (0,0) (4,0) (0,4)", &[0, 0, 4, 0, 0, 4]);
+    side_row(
+        b"P11 side of (L,L,-L) (L,-L,L) (-L,L,L) (-L,-L,-L)",
+        &[L, L, -L, L, -L, L, -L, L, L, -L, -L, -L],
+    );
+    side_row(
+        b"    side of (0,0,0) (1,0,0) (0,1,0) (0,0,1)",
+        &[0, 0, 0, 1, 0, 0, 0, 1, 0, 0, 0, 1],
+    );
+    turn_row(b"    turn of (0,0) (2,2) (5,5)", &[0, 0, 2, 2, 5, 5]);
+    turn_row(b"13  turn with a coordinate 524,288", &[0, 0, L, 0, 0, 4]);
+    turn_row(b"13  turn with a coordinate 524,289", &[0, 0, L + 1, 0, 0, 4]);
+}
+
+// Refusals of the turn: lengths, several bad positions, both ends of the grid and one past them.
+fn turn_refusals() {
+    turn_row(b"turn of no numbers", &[]);
+    turn_row(b"turn of 5 numbers", &[0, 0, 4, 0, 0]);
+    turn_row(b"turn of 7 numbers, the first off the grid", &[L + 1, 0, 4, 0, 0, 4, 0]);
+    turn_row(b"turn with positions 2 and 4 off the grid", &[0, 0, L + 1, 0, -L - 1, 4]);
+    turn_row(b"turn with only the last off the grid", &[0, 0, 4, 0, 0, -L - 1]);
+    turn_row(b"turn with all at an end of the grid", &[-L, -L, L, -L, -L, L]);
+    turn_row(b"turn at the ends of 32 bits", &[-2147483648, 2147483647, 4, 0, 0, 4]);
+}
+
+// The same for the side.
+fn side_refusals() {
+    side_row(b"side of 11 numbers", &[0, 0, 0, 1, 0, 0, 0, 1, 0, 0, 0]);
+    side_row(
+        b"side of 13 numbers, the last off the grid",
+        &[0, 0, 0, 1, 0, 0, 0, 1, 0, 0, 0, 1, L + 1],
+    );
+    side_row(
+        b"side with positions 3, 7 and 11 off the grid",
+        &[0, 0, 0, -L - 1, 0, 0, 0, L + 1, 0, 0, 0, L + 1],
+    );
+    side_row(
+        b"side with only the last off the grid",
+        &[0, 0, 0, 1, 0, 0, 0, 1, 0, 0, 0, L + 1],
+    );
+    side_row(
+        b"side with all at an end of the grid",
+        &[-L, -L, -L, L, -L, -L, -L, L, -L, -L, -L, L],
+    );
+}
+
+fn main() {
+    sign_rows();
+    turn_refusals();
+    side_refusals();
+}

@@ -1,0 +1,77 @@
+-- What the tests of the grid tell: of one number, and of the lowest position off the grid. Assumes nothing.
+use mathlib.Core.Path.{_≡_, refl, sym, ap, _∙_, subst}
+use mathlib.Core.Bool.{Bool, true, false, not, cond}
+use mathlib.Core.List.{List, [], _∷_}
+use Prim.Native.Nat.{ℕ, zero, suc, _^_, _<_, _≤_}
+use native.Mathlib.Omega.{arith}
+use borrow.Author.Tests.{ltb-true, ltb-false, leb-true, leb-false, lt-ltb, le-ltb, le-leb, lt-leb, not-true, not-false}
+use lib.Dec.{leb, ltb}
+use lib.IntN.{ℤ, pos, negsuc, natAbs}
+use lib.ListN.{getD, length}
+use lib.Signed.{ltZ, mag}
+use mir.Syntax.{w32}
+use mir.Val.{toZ, ofZ, hbits}
+use mir.Facts.{toZ-ofZ}
+use borrow.Author.Needs.{sfits-of}
+use Rattle.shape.specs.Points.{Point, coord, pointAt}
+use Rattle.predicate.specs.Grid.{limit, onGrid, lowestOff, Ready}
+use Rattle.predicate.specs.Vectors.{Sized}
+
+-- ---- one number, against a limit m + 1
+passes-not : false ≡ true → ⊥
+passes-not h = let z : _≡_ {A = ℕ} 0 1 = cc in omega arith
+
+pub below-limit : (m : ℕ) (z : ℤ) → ltZ z (negsuc m) ≡ true → true ≡ not (leb (natAbs z) (suc m))
+below-limit m (pos n) h = absurd (passes-not h)
+below-limit m (negsuc n) h = ap not (sym (lt-leb (suc n) (suc m) (omega (arith, ltb-true m n h))))
+
+pub not-below-limit : (m : ℕ) (z : ℤ) → ltZ z (negsuc m) ≡ false → ltZ (pos (suc m)) z ≡ not (leb (natAbs z) (suc m))
+not-below-limit m (pos n) h = opposite-tests (leb n (suc m)) refl
+  where
+    opposite-tests : (t : Bool) → leb n (suc m) ≡ t → ltb (suc m) n ≡ not t
+    opposite-tests true e = le-ltb (suc m) n (leb-true n (suc m) e)
+    opposite-tests false e = lt-ltb (suc m) n (leb-false n (suc m) e)
+not-below-limit m (negsuc n) h = ap not (sym (le-leb (suc n) (suc m) (omega (arith, ltb-false m n h))))
+
+-- What the test says of a number that was stored in 32 bits, it says of the number: off the grid, or on it.
+module _ (z : ℤ) (fits : mag z < 2 ^ hbits w32) (t : Bool) (e : t ≡ not (onGrid (toZ w32 (ofZ w32 z)))) where
+  same : onGrid z ≡ onGrid (toZ w32 (ofZ w32 z))
+  same = ap onGrid (sym (toZ-ofZ (sfits-of {w = w32} {z = z} fits)))
+
+  pub tested-off : t ≡ true → onGrid z ≡ false
+  tested-off h = same ∙ not-true (onGrid (toZ w32 (ofZ w32 z))) (sym e ∙ h)
+
+  pub tested-on : t ≡ false → onGrid z ≡ true
+  tested-on h = same ∙ not-false (onGrid (toZ w32 (ofZ w32 z))) (sym e ∙ h)
+
+-- ---- the lowest position off the grid
+-- Nothing before i is off the grid, and i is, unless it is the end.
+pub lowest-is : (l : List ℤ) (i : ℕ) → i ≤ length l → ((k : ℕ) → k < i → onGrid (getD l k (pos 0)) ≡ true) →
+    (i < length l → onGrid (getD l i (pos 0)) ≡ false) → i ≡ lowestOff l
+lowest-is [] i h on off = omega arith
+lowest-is (z ∷ l) zero h on off = ap (λ (t : Bool). cond t (suc (lowestOff l)) 0) (sym (off (omega arith)))
+lowest-is (z ∷ l) (suc i) h on off =
+    ap suc (lowest-is l i (omega arith) (λ k p. on (suc k) (omega arith)) (λ p. off (omega arith)))
+    ∙ ap (λ (t : Bool). cond t (suc (lowestOff l)) 0) (sym (on 0 (omega arith)))
+
+-- Where there is none, every number is on the grid; past the end stands 0, which is too.
+pub all-on : (l : List ℤ) → length l ≤ lowestOff l → (k : ℕ) → natAbs (getD l k (pos 0)) ≤ limit
+all-on [] h k = omega arith
+all-on (z ∷ l) h k = first (onGrid z) refl (all-on l) k h
+  where
+    first : (t : Bool) → onGrid z ≡ t → (length l ≤ lowestOff l → (k : ℕ) → natAbs (getD l k (pos 0)) ≤ limit) →
+        (k : ℕ) → suc (length l) ≤ cond t (suc (lowestOff l)) 0 → natAbs (getD (z ∷ l) k (pos 0)) ≤ limit
+    first true e rest zero g = leb-true (natAbs z) limit e
+    first true e rest (suc k) g = rest (omega arith) k
+    first false e rest k g = absurd (omega arith)
+
+-- ---- the points of a list whose numbers are all on the grid
+module _ {want : ℕ} {l : List ℤ} (ready : Ready want l) where
+  each-coordinate : (n p i : ℕ) → natAbs (coord i (pointAt n p l)) ≤ limit
+  each-coordinate zero p i = omega arith
+  each-coordinate (suc n) p zero = ready .each p
+  each-coordinate (suc n) p (suc i) = each-coordinate n (suc p) i
+
+  -- A point that is known to stand in the list has no coordinate off the grid.
+  pub sized-point : {a : Point} (n p : ℕ) → a ≡ pointAt n p l → Sized limit a
+  sized-point n p e = subst (λ (b : Point). Sized limit b) (sym e) (record { each = each-coordinate n p })

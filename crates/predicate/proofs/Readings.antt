@@ -1,0 +1,72 @@
+-- Coordinates as the code holds them: each is the whole number that is meant, and no larger than the grid allows. Here stand
+-- the readings of a coordinate, of a difference, of products and of a vector, which the leaves' proofs put together.
+-- Assumes nothing.
+use mathlib.Core.Path.{_≡_, refl, _∙_}
+use mathlib.Core.List.{[], _∷_}
+use Prim.Native.Nat.{ℕ, zero, suc, _+_, _*_, _^_, _≤_, _<_}
+use native.Mathlib.Omega.{arith}
+use lib.Dec.{T, ltb}
+use lib.IntN.{ℤ, natAbs, _-ℤ_, _*ℤ_}
+use lib.Signed.{mag}
+use mir.Syntax.{w64}
+use mir.Val.{toZ, ofZ, hbits}
+use mir.Facts.{toZ-ofZ}
+use borrow.Author.Needs.{sfits-of}
+use Rattle.algebra.proofs.Solver.{ring}
+use Rattle.algebra.proofs.Expression.{_⊞_, _⊠_}
+use Rattle.algebra.proofs.Machine.{Reads, exact, held, size, difference, product}
+use Rattle.shape.specs.Points.{Point, coord}
+use Rattle.shape.specs.Signs.{minor, determinant}
+use Rattle.shape.proofs.Symbols.{values, point, minorE, determinantE}
+use Rattle.predicate.specs.Grid.{limit}
+use Rattle.predicate.specs.Vectors.{Sized, differenceSize, minorSize, minors, dot}
+
+-- A number stored in 64 bits and read back.
+abbrev pub kept : ℤ → ℤ
+kept z = toZ w64 (ofZ w64 z)
+
+-- What a call returned is read back as it was, so it is what its contract says.
+pub returned : {r z : ℤ} → mag r < 2 ^ hbits w64 → r ≡ z → kept r ≡ z
+returned h e = toZ-ofZ (sfits-of {w = w64} h) ∙ e
+
+-- Coordinate i of a point whose coordinates are no larger than n.
+pub coordinate : {n : ℕ} {a : Point} → T (ltb n (2 ^ hbits w64)) → Sized n a → (i : ℕ) →
+    Reads (kept (coord i a)) (coord i a) n
+coordinate t s i = held w64 (exact (record { abs = s .each i })) t
+
+-- A difference of two coordinates, before and after it is stored.
+pub gap : {a c : Point} → Sized limit a → Sized limit c → (i : ℕ) →
+    Reads (kept (coord i a) -ℤ kept (coord i c)) (coord i a -ℤ coord i c) differenceSize
+gap s t i = difference (coordinate tt s i) (coordinate tt t i)
+
+pub stored-gap : {a c : Point} → Sized limit a → Sized limit c → (i : ℕ) →
+    Reads (kept (kept (coord i a) -ℤ kept (coord i c))) (coord i a -ℤ coord i c) differenceSize
+stored-gap s t i = held w64 (gap s t i) tt
+
+-- A product of two coordinates.
+pub times : {m n : ℕ} {u v : Point} → T (ltb m (2 ^ hbits w64)) → T (ltb n (2 ^ hbits w64)) → Sized m u → Sized n v → (i j : ℕ) →
+    Reads (kept (coord i u) *ℤ kept (coord j v)) (coord i u *ℤ coord j v) (m * n)
+times t t′ s r i j = product (coordinate t s i) (coordinate t′ r j)
+
+-- A minor of two rows of differences, whose two products were stored.
+pub minor-read : {u v : Point} → Sized differenceSize u → Sized differenceSize v → (i j : ℕ) →
+    Reads (kept (kept (coord i u) *ℤ kept (coord j v)) -ℤ kept (kept (coord j u) *ℤ kept (coord i v))) (minor i j u v) minorSize
+minor-read s r i j = difference (held w64 (times tt tt s r i j) tt) (held w64 (times tt tt s r j i) tt)
+
+-- Three readings make a vector: it is the one meant, and no coordinate is larger than n.
+pub vector : {x y z x′ y′ z′ : ℤ} {n : ℕ} → Reads x x′ n → Reads y y′ n → Reads z z′ n →
+    (_≡_ {A = Point} (x ∷ y ∷ z ∷ []) (x′ ∷ y′ ∷ z′ ∷ [])) × Sized n (x ∷ y ∷ z ∷ [])
+vector {x} {y} {z} {n} p q r = ((λ i. p .is i ∷ q .is i ∷ r .is i ∷ []), record { each = each })
+  where
+    each : (i : ℕ) → natAbs (coord i (x ∷ y ∷ z ∷ [])) ≤ n
+    each zero = size p .abs
+    each (suc zero) = size q .abs
+    each (suc (suc zero)) = size r .abs
+    each (suc (suc (suc i))) = omega arith
+
+-- The 3 by 3 determinant is the first row times the minors of the other two.
+pub determinant-by-minors : (u v w : Point) → dot u (minors v w) ≡ determinant u v w
+determinant-by-minors u v w =
+    ring (values (u ∷ v ∷ w ∷ []))
+    (point 0 0 ⊠ minorE 1 2 (point 1) (point 2) ⊞ point 0 1 ⊠ minorE 2 0 (point 1) (point 2) ⊞ point 0 2 ⊠ minorE 0 1 (point 1) (point 2))
+    (determinantE (point 0) (point 1) (point 2)) tt refl

@@ -1,0 +1,6 @@
+-- What the contracts of the predicates cite. Read Answers, Grid, Rules and Told; Vectors is the vocabulary of the leaves.
+pub mod Answers
+pub mod Grid
+pub mod Rules
+pub mod Told
+pub mod Vectors

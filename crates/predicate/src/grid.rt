@@ -1,0 +1,70 @@
+// The grid, and the checks that come before anything is computed.
+use crate::answer::Refusal;
+ghost use mathlib.Core.Path.{_≡_};
+ghost use mathlib.Core.Bool.{not};
+ghost use Rattle.predicate.specs.Grid.{onGrid, lowestOff};
+ghost use Rattle.predicate.specs.Rules.{rightLength, allOnGrid};
+ghost use Rattle.predicate.specs.Told.{toldCheck};
+
+// Every coordinate lies from -LIMIT to LIMIT, ends included. specs/Grid.antt names the same number.
+const LIMIT: i32 = 524_288;
+
+// What a check finds.
+pub enum Checked {
+    Fine,
+    Refused(Refusal),
+}
+
+pub fn off_grid(z: i32) -> bool
+    ensures { λ r. ⌜ r ≡ not (onGrid z) ⌝ }
+{
+    if z < -LIMIT {
+        return true;
+    }
+    LIMIT < z
+}
+
+// The position of the lowest number off the grid, or the length where there is none.
+pub fn lowest_off(numbers: &[i32]) -> usize
+    ensures { λ r. ⌜ r ≡ lowestOff (now (numbers .entry)) ⌝ }
+{
+    let mut i: usize = 0;
+    while i < numbers.len() {
+        if off_grid(numbers[i]) {
+            return i;
+        }
+        i += 1;
+    }
+    i
+}
+
+// Refusal 3: a list of the wrong length.
+pub fn length_checked(side: u32, want: usize, numbers: &[i32]) -> Checked
+    ensures { λ r. ⌜ toldCheck r ≡ rightLength side want (now (numbers .entry)) ⌝ }
+{
+    if numbers.len() == want {
+        Checked::Fine
+    } else {
+        Checked::Refused(Refusal {
+            number: 3,
+            side: side,
+            place: numbers.len(),
+        })
+    }
+}
+
+// Refusal 1: a coordinate off the grid.
+pub fn grid_checked(side: u32, numbers: &[i32]) -> Checked
+    ensures { λ r. ⌜ toldCheck r ≡ allOnGrid side (now (numbers .entry)) ⌝ }
+{
+    let place = lowest_off(numbers);
+    if place < numbers.len() {
+        Checked::Refused(Refusal {
+            number: 1,
+            side: side,
+            place: place,
+        })
+    } else {
+        Checked::Fine
+    }
+}

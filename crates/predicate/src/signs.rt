@@ -1,0 +1,67 @@
+// The public sign calls, and the determinants behind them. Three flat points are six numbers, four space points twelve.
+use crate::answer::SignAnswer;
+use crate::answer::ValueAnswer;
+use crate::determinant::side_of;
+use crate::determinant::sign_of;
+use crate::determinant::turn_of;
+use crate::grid::Checked;
+use crate::grid::grid_checked;
+use crate::grid::length_checked;
+ghost use mathlib.Core.Path.{_≡_};
+ghost use Rattle.shape.specs.Signs.{sign};
+ghost use Rattle.predicate.specs.Answers.{_then_, withServed};
+ghost use Rattle.predicate.specs.Rules.{rightLength, allOnGrid, valueRule, signRule};
+ghost use Rattle.predicate.specs.Told.{toldCheck, toldValue, toldSign};
+
+// The refusals of a sign call: 3, then 1.
+fn points_checked(want: usize, numbers: &[i32]) -> Checked
+    ensures { λ r. ⌜ toldCheck r ≡ rightLength 0 want (now (numbers .entry)) then allOnGrid 0 (now (numbers .entry)) ⌝ }
+{
+    match length_checked(0, want, numbers) {
+        Checked::Refused(why) => Checked::Refused(why),
+        Checked::Fine => grid_checked(0, numbers),
+    }
+}
+
+// The determinant of three flat points.
+pub fn turn_value(points: &[i32]) -> ValueAnswer
+    ensures { λ r. ⌜ toldValue r ≡ valueRule 2 (now (points .entry)) ⌝ }
+{
+    match points_checked(6, points) {
+        Checked::Refused(why) => ValueAnswer::Refused(why),
+        Checked::Fine => ValueAnswer::Valued(turn_of(points)),
+    }
+}
+
+// The determinant of four space points.
+pub fn side_value(points: &[i32]) -> ValueAnswer
+    ensures { λ r. ⌜ toldValue r ≡ valueRule 3 (now (points .entry)) ⌝ }
+{
+    match points_checked(12, points) {
+        Checked::Refused(why) => ValueAnswer::Refused(why),
+        Checked::Fine => ValueAnswer::Valued(side_of(points)),
+    }
+}
+
+fn signed(value: ValueAnswer) -> SignAnswer
+    ensures { λ r. ⌜ toldSign r ≡ withServed sign (toldValue value) ⌝ }
+{
+    match value {
+        ValueAnswer::Refused(why) => SignAnswer::Refused(why),
+        ValueAnswer::Valued(z) => SignAnswer::Signed(sign_of(z)),
+    }
+}
+
+// The flat turn sign: whether the three points turn left (Positive), right (Negative) or lie on a line (Zero).
+pub fn turn_sign(points: &[i32]) -> SignAnswer
+    ensures { λ r. ⌜ toldSign r ≡ signRule 2 (now (points .entry)) ⌝ }
+{
+    signed(turn_value(points))
+}
+
+// The spatial side sign.
+pub fn side_sign(points: &[i32]) -> SignAnswer
+    ensures { λ r. ⌜ toldSign r ≡ signRule 3 (now (points .entry)) ⌝ }
+{
+    signed(side_value(points))
+}
