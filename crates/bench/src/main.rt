@@ -83,55 +83,84 @@ fn side_row(row: &[u8], points: &[i32]) {
 }
 
 // The rows of document 01 that the sign calls answer.
-fn sign_rows() {
-    turn_row(b"P10 turn of (0,0) (4,0) (0,4)", &[0, 0, 4, 0, 0, 4]);
+fn table_rows() {
+    say(b"Rows of the bench table\n");
+    turn_row(b"P10  turn of (0,0) (4,0) (0,4)", &[0, 0, 4, 0, 0, 4]);
     side_row(
-        b"P11 side of (L,L,-L) (L,-L,L) (-L,L,L) (-L,-L,-L)",
+        b"P11  side of (L,L,-L) (L,-L,L) (-L,L,L) (-L,-L,-L)",
         &[L, L, -L, L, -L, L, -L, L, L, -L, -L, -L],
     );
+    turn_row(b"13   turn with a coordinate 524,288", &[0, 0, L, 0, 0, 4]);
+    turn_row(
+        b"13   turn with a coordinate 524,289",
+        &[0, 0, L + 1, 0, 0, 4],
+    );
     side_row(
-        b"    side of (0,0,0) (1,0,0) (0,1,0) (0,0,1)",
+        b"13   side with a coordinate 524,288",
+        &[0, 0, 0, L, 0, 0, 0, 1, 0, 0, 0, 1],
+    );
+    side_row(
+        b"13   side with a coordinate 524,289",
+        &[0, 0, 0, L + 1, 0, 0, 0, 1, 0, 0, 0, 1],
+    );
+}
+
+// The turn: the other signs, and lengths, several bad positions, both ends of the grid and one past them.
+fn turn_rows() {
+    say(b"Further rows of the turn\n");
+    turn_row(b"to the right", &[0, 0, 0, 4, 4, 0]);
+    turn_row(b"on a line", &[0, 0, 2, 2, 5, 5]);
+    turn_row(b"equal points", &[3, -1, 3, -1, 0, 7]);
+    turn_row(b"all at an end of the grid", &[-L, -L, L, -L, -L, L]);
+    turn_row(b"no numbers", &[]);
+    turn_row(b"5 numbers", &[0, 0, 4, 0, 0]);
+    turn_row(
+        b"7 numbers, the first off the grid",
+        &[L + 1, 0, 4, 0, 0, 4, 0],
+    );
+    turn_row(b"12 numbers", &[0, 0, 0, 1, 0, 0, 0, 1, 0, 0, 0, 1]);
+    turn_row(
+        b"positions 2 and 4 off the grid",
+        &[0, 0, L + 1, 0, -L - 1, 4],
+    );
+    turn_row(b"only the last off the grid", &[0, 0, 4, 0, 0, -L - 1]);
+    turn_row(
+        b"the ends of 32 bits",
+        &[-2147483648, 2147483647, 4, 0, 0, 4],
+    );
+}
+
+// The same of the side.
+fn side_rows() {
+    say(b"Further rows of the side\n");
+    side_row(
+        b"(0,0,0) (1,0,0) (0,1,0) (0,0,1)",
         &[0, 0, 0, 1, 0, 0, 0, 1, 0, 0, 0, 1],
     );
-    turn_row(b"    turn of (0,0) (2,2) (5,5)", &[0, 0, 2, 2, 5, 5]);
-    turn_row(b"13  turn with a coordinate 524,288", &[0, 0, L, 0, 0, 4]);
-    turn_row(b"13  turn with a coordinate 524,289", &[0, 0, L + 1, 0, 0, 4]);
-}
-
-// Refusals of the turn: lengths, several bad positions, both ends of the grid and one past them.
-fn turn_refusals() {
-    turn_row(b"turn of no numbers", &[]);
-    turn_row(b"turn of 5 numbers", &[0, 0, 4, 0, 0]);
-    turn_row(b"turn of 7 numbers, the first off the grid", &[L + 1, 0, 4, 0, 0, 4, 0]);
-    turn_row(b"turn with positions 2 and 4 off the grid", &[0, 0, L + 1, 0, -L - 1, 4]);
-    turn_row(b"turn with only the last off the grid", &[0, 0, 4, 0, 0, -L - 1]);
-    turn_row(b"turn with all at an end of the grid", &[-L, -L, L, -L, -L, L]);
-    turn_row(b"turn at the ends of 32 bits", &[-2147483648, 2147483647, 4, 0, 0, 4]);
-}
-
-// The same for the side.
-fn side_refusals() {
-    side_row(b"side of 11 numbers", &[0, 0, 0, 1, 0, 0, 0, 1, 0, 0, 0]);
+    side_row(b"in one plane", &[0, 0, 0, 1, 0, 0, 0, 1, 0, 5, 7, 0]);
     side_row(
-        b"side of 13 numbers, the last off the grid",
+        b"all at an end of the grid",
+        &[-L, -L, -L, L, -L, -L, -L, -L, L, -L, L, -L],
+    );
+    side_row(b"no numbers", &[]);
+    side_row(b"6 numbers", &[0, 0, 4, 0, 0, 4]);
+    side_row(b"11 numbers", &[0, 0, 0, 1, 0, 0, 0, 1, 0, 0, 0]);
+    side_row(
+        b"13 numbers, the last off the grid",
         &[0, 0, 0, 1, 0, 0, 0, 1, 0, 0, 0, 1, L + 1],
     );
     side_row(
-        b"side with positions 3, 7 and 11 off the grid",
+        b"positions 3, 7 and 11 off the grid",
         &[0, 0, 0, -L - 1, 0, 0, 0, L + 1, 0, 0, 0, L + 1],
     );
     side_row(
-        b"side with only the last off the grid",
+        b"only the last off the grid",
         &[0, 0, 0, 1, 0, 0, 0, 1, 0, 0, 0, L + 1],
-    );
-    side_row(
-        b"side with all at an end of the grid",
-        &[-L, -L, -L, L, -L, -L, -L, L, -L, -L, -L, L],
     );
 }
 
 fn main() {
-    sign_rows();
-    turn_refusals();
-    side_refusals();
+    table_rows();
+    turn_rows();
+    side_rows();
 }

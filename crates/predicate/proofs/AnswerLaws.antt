@@ -51,6 +51,6 @@ grid-right side l = by-test (ltb (lowestOff l) (length l)) refl
 -- A list that neither check refuses is ready for its call.
 pub ready : (want : ℕ) (l : List ℤ) → (rightLength 0 want l then allOnGrid 0 l) ≡ fine → Ready want l
 ready want l e = record {
-    long = length-right 0 want l (first-fine (rightLength 0 want l) (allOnGrid 0 l) e);
-    each = grid-right 0 l (second-fine (rightLength 0 want l) (allOnGrid 0 l) e);
-  }
+  long = length-right 0 want l (first-fine (rightLength 0 want l) (allOnGrid 0 l) e);
+  each = grid-right 0 l (second-fine (rightLength 0 want l) (allOnGrid 0 l) e);
+}

@@ -22,11 +22,12 @@ space-point-requires-4 c κs = omega (arith, c .before .before .before .pre .lon
 
 side-at-requires : tie.Need-side-at-requires
 side-at-requires c κs =
-    let ready = c .before .before .before .before .pre in
-    (sized-point ready 3 _ (c .before .before .before .space-point .ensures),
+    let ready = c .before .before .before .before .pre in (
+      sized-point ready 3 _ (c .before .before .before .space-point .ensures),
       sized-point ready 3 _ (c .before .before .space-point2 .ensures),
       sized-point ready 3 _ (c .before .space-point3 .ensures),
-      sized-point ready 3 _ (c .space-point4 .ensures))
+      sized-point ready 3 _ (c .space-point4 .ensures),
+    )
 
 returns : tie.Need-returns
 returns c =

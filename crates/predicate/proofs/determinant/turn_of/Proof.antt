@@ -19,10 +19,11 @@ plane-point-requires-3 c κs = omega (arith, c .before .before .pre .long)
 
 turn-at-requires : tie.Need-turn-at-requires
 turn-at-requires c κs =
-    let ready = c .before .before .before .pre in
-    (sized-point ready 2 _ (c .before .before .plane-point .ensures),
+    let ready = c .before .before .before .pre in (
+      sized-point ready 2 _ (c .before .before .plane-point .ensures),
       sized-point ready 2 _ (c .before .plane-point2 .ensures),
-      sized-point ready 2 _ (c .plane-point3 .ensures))
+      sized-point ready 2 _ (c .plane-point3 .ensures),
+    )
 
 returns : tie.Need-returns
 returns c =

@@ -50,10 +50,11 @@ loop-less c = search needs
 loop-again : tie.Need-loop-again Inv-loop μ-loop
 loop-again c =
     let p = c .before .before .before .before in
-    let z = getD (p .before .args .numbers .now) (p .loop .i) (pos 0) in
-    (search needs,
+    let z = getD (p .before .args .numbers .now) (p .loop .i) (pos 0) in (
+      search needs,
       below-more _ _ (p .loop .inv .1)
-      (tested-on z (c .before .before .off-grid-arg .given) (c .before .off-grid .result) (c .before .off-grid .ensures) (c .if1 .left)))
+          (tested-on z (c .before .before .off-grid-arg .given) (c .before .off-grid .result) (c .before .off-grid .ensures) (c .if1 .left)),
+    )
 
 returns-2 : tie.Need-returns-2 Inv-loop μ-loop
 returns-2 c =
