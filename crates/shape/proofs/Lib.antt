@@ -6,5 +6,6 @@ pub mod Meeting
 pub mod Symbols
 pub mod SignLaws
 pub mod Dependence
+pub mod Witnesses
 pub mod FlatLaws
 pub mod Bench

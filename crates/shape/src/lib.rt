@@ -1,1 +1,20 @@
-// no code
+// What the words of document 01 mean, over the whole numbers: no grid, no machine, no function.
+//
+// specs/ holds the definitions that a reader must believe:
+//   Points       points, shapes, how a list of numbers is read as points, moving by a vector
+//   Signs        the turn, the side, the bracket that names both, the sign of a number
+//   Sharing      a point of a shape by whole weights, and having a point in common
+//   Flat         flat triangles and segments
+//   Bench        the table of proved bench rows
+//
+// proofs/ holds the laws, each proved once over the number of coordinates and, where it makes sense, of corners:
+//   Weights      the weighted sum of a function over the corners is linear and monotone
+//   Trading      trading the shapes, reordering corners, a part of the corners, moving both by a vector
+//   Apart        apart by a functional: what proves every "no"
+//   Meeting      meeting by weights
+//   Dependence   meeting by a dependence of n + 2 points in n coordinates: what proves every "yes"
+//   Witnesses    its three instances: a point in a triangle, two segments that cross, a segment through a triangle
+//   SignLaws     swapping, cycling, equal points, moving, for plane and space at once
+//   FlatLaws     flat triangles told by turns
+//   Symbols      points as symbols for the ring solver
+//   Bench        every row of the table holds
