@@ -4,3 +4,4 @@ pub mod GridLaws
 pub mod AnswerLaws
 pub mod ValueLaws
 pub mod Unique
+pub mod Exactly

@@ -4,8 +4,8 @@ use mathlib.Core.Path.{_≡_, refl, sym, ap, _∙_}
 use mathlib.Core.List.{List}
 use Prim.Native.Nat.{ℕ}
 use native.Mathlib.Omega.{arith}
-use lib.IntN.{ℤ, pos, negsuc}
-use Rattle.predicate.specs.Answers.{Answer, served, refused}
+use lib.IntN.{ℤ}
+use Rattle.predicate.specs.Answers.{Answer, served}
 use Rattle.predicate.specs.Rules.{valueRule, signRule}
 use Rattle.predicate.specs.Told.{signNumber, toldRefusal, toldSign, toldValue}
 use Rattle.predicate.specs.declared.answer.Refusal.{Refusal}

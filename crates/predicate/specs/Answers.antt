@@ -6,6 +6,19 @@ pub data Answer (A : Type 0) : Type 0 where
   served : A → Answer A
   refused : (number side place : ℕ) → Answer A
 
+-- The number, side and place that document 01's table gives an answer: 0, 0 and 0 where it serves.
+abbrev pub numberOf : {A : Type 0} → Answer A → ℕ
+numberOf (served a) = 0
+numberOf (refused number side place) = number
+
+abbrev pub sideOf : {A : Type 0} → Answer A → ℕ
+sideOf (served a) = 0
+sideOf (refused number side place) = side
+
+abbrev pub placeOf : {A : Type 0} → Answer A → ℕ
+placeOf (served a) = 0
+placeOf (refused number side place) = place
+
 -- A check serves nothing: it finds nothing to refuse, or it refuses.
 abbrev pub Check : Type 0
 Check = Answer (Unit {0})

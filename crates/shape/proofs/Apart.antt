@@ -1,6 +1,6 @@
 -- Apart by a functional: whole numbers c1 .. ck and m such that c·a + m ≤ 0 at every corner a of one shape and > 0 at
 -- every corner of the other leave no point in common. Every "no" of the tests is an instance of `apart`. Assumes nothing.
-use mathlib.Core.Path.{_≡_, refl, sym, _∙_, ap, ap₂, subst}
+use mathlib.Core.Path.{_≡_, refl, _∙_, ap, ap₂, subst}
 use mathlib.Core.List.{List, [], _∷_}
 use Prim.Native.Nat.{ℕ, suc, _+_, _≤_}
 use native.Mathlib.Omega.{arith}
@@ -9,9 +9,9 @@ use lib.IntN.{ℤ, pos, negsuc, _+ℤ_, _*ℤ_}
 use lib.Signed.{_≤ℤ_, _<ℤ_}
 use Rattle.algebra.proofs.Expression.{var, lit, _⊠_}
 use Rattle.algebra.proofs.Order.{0<-pos}
-use Rattle.algebra.proofs.Certificate.{_≦_, _≺_, _≐_, hyp, eqn, _⊕_, prove⊥}
+use Rattle.algebra.proofs.Certificate.{_≦_, _≺_, hyp, _⊕_, prove⊥}
 use Rattle.shape.specs.Points.{Point, Shape, coord}
-use Rattle.shape.specs.Sharing.{total, weigh, PointOf, Share}
+use Rattle.shape.specs.Sharing.{weigh, PointOf, Share}
 use Rattle.shape.proofs.Weights.{Every, weigh-add, weigh-scale, weigh-const, weigh-zero, weigh-le}
 
 -- c·a, the first number of c going with coordinate i.

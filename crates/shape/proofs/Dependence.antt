@@ -2,13 +2,13 @@
 -- signs, add up to zero, and so do they as weights of the points. So where those of the first few points are not negative,
 -- those of the others not positive and one is not zero, they are the weights of a common point of the shape of the first
 -- few and the shape of the others. Every "yes" of the tests is an instance of `meet-by-dependence`. Assumes nothing.
-use mathlib.Core.Path.{_≡_, refl, sym, _∙_, ap, ap₂, subst}
+use mathlib.Core.Path.{_≡_, refl, sym, _∙_, ap}
 use mathlib.Core.List.{List, [], _∷_, _++_, map}
 use Prim.Native.Nat.{ℕ, zero, suc, _+_, _<_}
 use native.Mathlib.Omega.{arith}
 use lib.ListN.{length, take, drop, length-map, length-take, length-drop, length-append}
 use lib.IntN.{ℤ, pos, negℤ, _+ℤ_, _*ℤ_, +ℤ-idl, +ℤ-assoc, negℤ-+ℤ}
-use lib.Signed.{_≤ℤ_, _<ℤ_}
+use lib.Signed.{_<ℤ_}
 use Rattle.algebra.proofs.Expression.{Ex, var, lit, _⊞_, _⊠_, neg}
 use Rattle.algebra.proofs.Solver.{ring, _≗_, solve}
 use Rattle.algebra.proofs.Certificate.{_≐_, eqn, num, prove≡}

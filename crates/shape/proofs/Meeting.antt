@@ -9,7 +9,7 @@ use lib.Dec.{ltb→lt}
 use lib.IntN.{ℤ, pos, natAbs, _+ℤ_, _*ℤ_}
 use lib.Signed.{_≤ℤ_, _<ℤ_, yes-nonNeg, pos-natAbs}
 use Rattle.shape.specs.Points.{Point, Shape, coord}
-use Rattle.shape.specs.Sharing.{total, weigh, PointOf, Share}
+use Rattle.shape.specs.Sharing.{total, weigh, Share}
 
 -- ---- a point with given coordinates
 abbrev pub pointWith : ℕ → (ℕ → ℤ) → Point

@@ -2,11 +2,11 @@
 -- Only the first, that two neighbours trade places, and the last, on moving, look at the formulas: the others follow from
 -- the first for any number of points. Assumes nothing.
 use mathlib.Core.Path.{_≡_, refl, sym, _∙_, ap}
-use mathlib.Core.List.{List, [], _∷_, _++_, append-assoc, map}
+use mathlib.Core.List.{List, [], _∷_, _++_, append-assoc}
 use Prim.Native.Nat.{ℕ, zero, suc}
 use lib.ListN.{length}
 use lib.IntN.{ℤ, pos, negsuc, negℤ, _+ℤ_}
-use Rattle.algebra.proofs.Expression.{Ex, var, lit, _⊞_, neg}
+use Rattle.algebra.proofs.Expression.{var, lit, _⊞_, neg}
 use Rattle.algebra.proofs.Solver.{ring}
 use Rattle.algebra.proofs.Certificate.{_≐_, eqn, num, prove≡}
 use Rattle.shape.specs.Points.{Point, coord, moved, movedAll}

@@ -1,7 +1,7 @@
 -- `predicate::determinant::side_at` meets its contract: the first row times the minors of the other two is the determinant.
 -- Assumes nothing.
 use borrow.Author.Needs.{needs}
-use mathlib.Core.Path.{_≡_, _∙_}
+use mathlib.Core.Path.{_∙_}
 use Rattle.shape.specs.Signs.{row}
 use Rattle.predicate.specs.Vectors.{spatial, minors, dot}
 use Rattle.predicate.proofs.Readings.{returned, determinant-by-minors}

@@ -1,7 +1,7 @@
 -- `predicate::determinant::side_of` meets its contract: the points that it reads are those of the list, and the determinant is their side.
 -- Assumes nothing.
 use native.Mathlib.Omega.{arith}
-use mathlib.Core.Path.{_≡_, _∙_}
+use mathlib.Core.Path.{_∙_}
 use Rattle.shape.specs.Signs.{side}
 use Rattle.predicate.proofs.GridLaws.{sized-point}
 use Rattle.predicate.proofs.Readings.{returned}

@@ -1,7 +1,7 @@
 -- `predicate::determinant::turn_of` meets its contract: the points that it reads are those of the list, and the determinant is their turn.
 -- Assumes nothing.
 use native.Mathlib.Omega.{arith}
-use mathlib.Core.Path.{_≡_, _∙_}
+use mathlib.Core.Path.{_∙_}
 use Rattle.shape.specs.Signs.{turn}
 use Rattle.predicate.proofs.GridLaws.{sized-point}
 use Rattle.predicate.proofs.Readings.{returned}

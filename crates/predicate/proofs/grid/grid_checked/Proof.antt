@@ -2,7 +2,6 @@
 -- Assumes nothing.
 use borrow.Author.Needs.{needs}
 use borrow.Author.Tests.{lt-ltb, le-ltb}
-use mathlib.Core.Path.{_≡_, sym}
 use Rattle.predicate.proofs.grid.grid_checked.Statement.{statement}
 use Rattle.predicate.proofs.grid.grid_checked.Tie as tie
 

@@ -1,9 +1,6 @@
 -- `predicate::grid::off_grid` meets its contract: a number is off the grid below the lower end or above the upper.
 -- Assumes nothing.
-use mathlib.Core.Path.{_∙_, ap}
 use lib.Dec.{lit<}
-use lib.IntN.{pos}
-use lib.Signed.{ltZ}
 use mir.Facts.{toZ-ofZ}
 use Rattle.predicate.proofs.GridLaws.{below-limit, not-below-limit}
 use Rattle.predicate.proofs.grid.off_grid.Statement.{statement}

@@ -1,7 +1,7 @@
 -- `predicate::signs::points_checked` meets its contract: where the length is refused nothing else counts, and where it is fine the grid decides.
 -- Assumes nothing.
 use borrow.Author.Needs.{needs}
-use mathlib.Core.Path.{_≡_, sym, ap, _∙_}
+use mathlib.Core.Path.{sym, ap, _∙_}
 use Rattle.predicate.specs.Answers.{Check, _then_}
 use Rattle.predicate.specs.Rules.{allOnGrid}
 use Rattle.predicate.specs.Told.{toldCheck}

@@ -3,7 +3,7 @@
 use borrow.Author.Needs.{needs, sfits-of}
 use mir.Syntax.{w64}
 use mir.Facts.{toZ-ofZ}
-use mathlib.Core.Path.{_≡_, sym, ap, _∙_}
+use mathlib.Core.Path.{sym, ap, _∙_}
 use Rattle.shape.specs.Signs.{sign}
 use Rattle.predicate.specs.Answers.{served, withServed}
 use Rattle.predicate.specs.Told.{toldValue}

@@ -1,7 +1,7 @@
 -- `predicate::signs::turn_sign` meets its contract: it is the sign of what the value call answers.
 -- Assumes nothing.
 use borrow.Author.Needs.{needs}
-use mathlib.Core.Path.{_≡_, ap, _∙_}
+use mathlib.Core.Path.{ap, _∙_}
 use Rattle.shape.specs.Signs.{sign}
 use Rattle.predicate.specs.Answers.{withServed}
 use Rattle.predicate.proofs.signs.turn_sign.Statement.{statement}

@@ -1,7 +1,7 @@
 -- `predicate::signs::turn_value` meets its contract: what the checks refuse is refused, and the determinant of any other list is served.
 -- Assumes nothing.
 use borrow.Author.Needs.{needs}
-use mathlib.Core.Path.{_≡_, ap, _∙_}
+use mathlib.Core.Path.{ap, _∙_}
 use Rattle.predicate.specs.Answers.{served}
 use Rattle.predicate.proofs.Readings.{returned}
 use Rattle.predicate.proofs.ValueLaws.{checks-refuse, checks-serve, checks-ready}
