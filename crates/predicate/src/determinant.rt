@@ -1,5 +1,5 @@
-// The determinants of document 000 at points of the grid, exact in 64 bits. Every function here is a leaf: what is off the
-// grid was refused before it is called.
+// The determinants of document 000 at points of the grid, exact in 64 bits. The module is private to the crate: its functions
+// are the leaves, and what is off the grid was refused before one of them is called.
 use crate::answer::Sign;
 ghost use mathlib.Core.Path.{_≡_};
 ghost use Prim.Native.Nat.{_+_, _≤_, _<_};

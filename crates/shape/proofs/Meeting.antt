@@ -1,7 +1,8 @@
--- Meeting by weights: how to show that two shapes have a point in common. In proofs the weights are whole numbers shown to
--- be not negative; the definition's natural numbers are reached once, here. Assumes nothing.
+-- Meeting by weights: that `Share` is document 01's definition word for word, and how to show it. In proofs the weights are
+-- whole numbers shown to be not negative; the definition's natural numbers are reached once, here. Assumes nothing.
 use mathlib.Core.Path.{_≡_, refl, sym, _∙_, ap, ap₂, subst}
 use mathlib.Core.List.{List, [], _∷_, map}
+use mathlib.Core.Logic.{_↔_}
 use Prim.Native.Nat.{ℕ, zero, suc, _+_, _≤_, _<_}
 use native.Mathlib.Omega.{arith}
 use lib.ListN.{length, length-map}
@@ -21,28 +22,51 @@ coord-pointWith zero f i l = absurd (omega arith)
 coord-pointWith (suc n) f zero l = refl
 coord-pointWith (suc n) f (suc i) l = coord-pointWith n (λ j. f (suc j)) i (omega arith)
 
--- Weights with one sum that agree in every coordinate give a common point.
-pub share-by-weights : {n : ℕ} {P Q : Shape} (us ws : List ℕ) → length us ≡ length P → length ws ≡ length Q →
-    total us ≡ total ws → 1 ≤ total us → ((i : ℕ) → i < n → weigh (coord i) us P ≡ weigh (coord i) ws Q) → Share n P Q
-share-by-weights {n} {P} {Q} us ws lu lw same some agree =
+-- ---- having a point in common, in document 01's own words
+-- Whole weights for the corners of each shape, none negative, with one sum, which is at least 1, whose weighted sums agree in
+-- each coordinate.
+pub record CommonWeights (n : ℕ) (P Q : Shape) : Type 0 where
+  pub us : List ℕ
+  pub ws : List ℕ
+  pub us-each : length us ≡ length P
+  pub ws-each : length ws ≡ length Q
+  pub same : total us ≡ total ws
+  pub some : 1 ≤ total us
+  pub agree : (i : ℕ) → i < n → weigh (coord i) us P ≡ weigh (coord i) ws Q
+
+pub share-of-weights : {n : ℕ} {P Q : Shape} → CommonWeights n P Q → Share n P Q
+share-of-weights {n} {P} {Q} h =
     record {
-      s = total us;
-      x = pointWith n (λ i. weigh (coord i) us P);
-      of-first = record {
-        weights = us;
-        each = lu;
-        sum = refl;
-        some = some;
-        mixed = λ i l. sym (coord-pointWith n (λ j. weigh (coord j) us P) i l);
-      };
+      s = total (h .us);
+      x = pointWith n sums;
+      of-first = record { weights = h .us; each = h .us-each; sum = refl; some = h .some; mixed = λ i l. sym (coord-pointWith n sums i l) };
       of-second = record {
-        weights = ws;
-        each = lw;
-        sum = sym same;
-        some = some;
-        mixed = λ i l. sym (agree i l) ∙ sym (coord-pointWith n (λ j. weigh (coord j) us P) i l);
+        weights = h .ws;
+        each = h .ws-each;
+        sum = sym (h .same);
+        some = h .some;
+        mixed = λ i l. sym (h .agree i l) ∙ sym (coord-pointWith n sums i l);
       };
     }
+  where
+    sums : ℕ → ℤ
+    sums i = weigh (coord i) (h .us) P
+
+pub weights-of-share : {n : ℕ} {P Q : Shape} → Share n P Q → CommonWeights n P Q
+weights-of-share h =
+    record {
+      us = h .of-first .weights;
+      ws = h .of-second .weights;
+      us-each = h .of-first .each;
+      ws-each = h .of-second .each;
+      same = h .of-first .sum ∙ sym (h .of-second .sum);
+      some = omega (arith, h .of-first .sum, h .of-first .some);
+      agree = λ i l. h .of-first .mixed i l ∙ sym (h .of-second .mixed i l);
+    }
+
+-- One point with one name, or weights that agree: the same.
+pub share-is-weights : {n : ℕ} {P Q : Shape} → Share n P Q ↔ CommonWeights n P Q
+share-is-weights = (weights-of-share, share-of-weights)
 
 -- ---- weights as whole numbers that are not negative
 abbrev pub NonNegative : List ℤ → Type 0
@@ -75,7 +99,12 @@ pub meet : {n : ℕ} {P Q : Shape} (us ws : List ℤ) → length us ≡ length P
     NonNegative us → NonNegative ws → totalℤ us ≡ totalℤ ws → pos 0 <ℤ totalℤ us →
     ((i : ℕ) → i < n → weighℤ (coord i) us P ≡ weighℤ (coord i) ws Q) → Share n P Q
 meet {P} {Q} us ws lu lw hu hw same some agree =
-    share-by-weights (map natAbs us) (map natAbs ws) (length-map us natAbs ∙ lu) (length-map ws natAbs ∙ lw)
-    (ap natAbs (total-natural us hu ∙ same ∙ sym (total-natural ws hw)))
-    (ltb→lt 0 (total (map natAbs us)) (subst (λ (z : ℤ). pos 0 <ℤ z) (sym (total-natural us hu)) some .lt))
-    (λ i l. weigh-natural (coord i) us P hu ∙ agree i l ∙ sym (weigh-natural (coord i) ws Q hw))
+    share-of-weights (record {
+      us = map natAbs us;
+      ws = map natAbs ws;
+      us-each = length-map us natAbs ∙ lu;
+      ws-each = length-map ws natAbs ∙ lw;
+      same = ap natAbs (total-natural us hu ∙ same ∙ sym (total-natural ws hw));
+      some = ltb→lt 0 (total (map natAbs us)) (subst (λ (z : ℤ). pos 0 <ℤ z) (sym (total-natural us hu)) some .lt);
+      agree = λ i l. weigh-natural (coord i) us P hu ∙ agree i l ∙ sym (weigh-natural (coord i) ws Q hw);
+    })

@@ -11,7 +11,7 @@
 //   Weights      the weighted sum of a function over the corners is linear and monotone
 //   Trading      trading the shapes, reordering corners, a part of the corners, moving both by a vector
 //   Apart        apart by a functional: what proves every "no"
-//   Meeting      meeting by weights
+//   Meeting      meeting by weights: document 01's definition word for word
 //   Dependence   meeting by a dependence of n + 2 points in n coordinates: what proves every "yes"
 //   Witnesses    its three instances: a point in a triangle, two segments that cross, a segment through a triangle
 //   SignLaws     swapping, cycling, equal points, moving, for plane and space at once
