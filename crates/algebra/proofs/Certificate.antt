@@ -33,7 +33,7 @@
 --   A refusal of `tt` is about a sign (a factor s or a certificate c that is not seen to be positive, or zero), not about the
 --   identity: `sqr e` is never seen as positive, and `hyp i` only where hypothesis i has ≺.
 use mathlib.Core.Path.{_≡_, refl, sym, _∙_, ap, ap₂, subst}
-use mathlib.Core.Bool.{Bool, true, false}
+use mathlib.Core.Bool.{Bool, true, false, _&&_, _||_}
 use mathlib.Core.List.{List, [], _∷_}
 use Prim.Native.Nat.{ℕ, zero, suc}
 use native.Mathlib.Omega.{arith}
@@ -124,15 +124,6 @@ sumOf hs (num n) = lit (pos n)
 sumOf hs (a ⊕ b) = sumOf hs a ⊞ sumOf hs b
 sumOf hs (a ⊗ b) = sumOf hs a ⊠ sumOf hs b
 
--- the two connectives, by their first argument
-abbrev pub or : Bool → Bool → Bool
-or true b = true
-or false b = b
-
-abbrev pub and : Bool → Bool → Bool
-and true b = b
-and false b = false
-
 -- a certificate that is seen to be positive
 abbrev pub strict : List Rel → Cert → Bool
 strict hs (hyp i) = isStrict (nthRel hs i)
@@ -140,8 +131,8 @@ strict hs (eqn i e) = false
 strict hs (sqr e) = false
 strict hs (num zero) = false
 strict hs (num (suc n)) = true
-strict hs (a ⊕ b) = or (strict hs a) (strict hs b)
-strict hs (a ⊗ b) = and (strict hs a) (strict hs b)
+strict hs (a ⊕ b) = strict hs a || strict hs b
+strict hs (a ⊗ b) = strict hs a && strict hs b
 
 eq-gap : (x y : ℤ) → x ≡ y → y -ℤ x ≡ pos 0
 eq-gap x y e = ap (λ (z : ℤ). y -ℤ z) e ∙ +ℤ-invr y
@@ -172,11 +163,11 @@ nonneg ρ hs (num n) p = 0≤-pos n
 nonneg ρ hs (a ⊕ b) p = 0≤-add (nonneg ρ hs a p) (nonneg ρ hs b p)
 nonneg ρ hs (a ⊗ b) p = 0≤-mul (nonneg ρ hs a p) (nonneg ρ hs b p)
 
-or-positive : (s t : Bool) (x y : ℤ) → pos 0 ≤ℤ x → pos 0 ≤ℤ y → (T s → pos 0 <ℤ x) → (T t → pos 0 <ℤ y) → T (or s t) → pos 0 <ℤ (x +ℤ y)
+or-positive : (s t : Bool) (x y : ℤ) → pos 0 ≤ℤ x → pos 0 ≤ℤ y → (T s → pos 0 <ℤ x) → (T t → pos 0 <ℤ y) → T (s || t) → pos 0 <ℤ (x +ℤ y)
 or-positive true t x y h g f e u = 0<-addl (f tt) g
 or-positive false t x y h g f e u = 0<-addr h (e u)
 
-and-positive : (s t : Bool) (x y : ℤ) → (T s → pos 0 <ℤ x) → (T t → pos 0 <ℤ y) → T (and s t) → pos 0 <ℤ (x *ℤ y)
+and-positive : (s t : Bool) (x y : ℤ) → (T s → pos 0 <ℤ x) → (T t → pos 0 <ℤ y) → T (s && t) → pos 0 <ℤ (x *ℤ y)
 and-positive true t x y f e u = 0<-mul (f tt) (e u)
 and-positive false t x y f e u = absurd u
 
@@ -218,19 +209,19 @@ isZero hs (eqn i e) = true
 isZero hs (sqr e) = false
 isZero hs (num zero) = true
 isZero hs (num (suc n)) = false
-isZero hs (a ⊕ b) = and (isZero hs a) (isZero hs b)
-isZero hs (a ⊗ b) = or (isZero hs a) (isZero hs b)
+isZero hs (a ⊕ b) = isZero hs a && isZero hs b
+isZero hs (a ⊗ b) = isZero hs a || isZero hs b
 
 gap-zero : (ρ : List ℤ) (r : Rel) → Means ρ r → T (isEqn r) → value ρ (gap r) ≡ pos 0
 gap-zero ρ (a ≦ b) p t = absurd t
 gap-zero ρ (a ≺ b) p t = absurd t
 gap-zero ρ (a ≐ b) p t = eq-gap (value ρ a) (value ρ b) p
 
-and-zero : (s t : Bool) (x y : ℤ) → (T s → x ≡ pos 0) → (T t → y ≡ pos 0) → T (and s t) → x +ℤ y ≡ pos 0
+and-zero : (s t : Bool) (x y : ℤ) → (T s → x ≡ pos 0) → (T t → y ≡ pos 0) → T (s && t) → x +ℤ y ≡ pos 0
 and-zero true t x y f g u = ap₂ _+ℤ_ (f tt) (g u)
 and-zero false t x y f g u = absurd u
 
-or-zero : (s t : Bool) (x y : ℤ) → (T s → x ≡ pos 0) → (T t → y ≡ pos 0) → T (or s t) → x *ℤ y ≡ pos 0
+or-zero : (s t : Bool) (x y : ℤ) → (T s → x ≡ pos 0) → (T t → y ≡ pos 0) → T (s || t) → x *ℤ y ≡ pos 0
 or-zero true t x y f g u = ap (λ (z : ℤ). z *ℤ y) (f tt) ∙ zero-*ℤ y
 or-zero false t x y f g u = ap (λ (z : ℤ). x *ℤ z) (g u) ∙ *ℤ-zero x
 

@@ -2,8 +2,8 @@
 -- computes it, is z, and that |z| ≤ n.
 --
 -- A signed value that is stored at a width w and read back stands in a goal as `toZ w (ofZ w v)`: its bits, read as a number.
--- Build a `Reads` along the code, from the leaves: `parameter` for a parameter, `element` for an element of a slice, `result` for what
--- a call returned, `exact` for a number that is not stored; `sum`, `difference`, `product` for the operations; and `held` where
+-- Build a `Reads` along the code, from the leaves: `parameter` for a parameter, `element` for an element of a slice,
+-- `exact` for a number that is not stored; `sum`, `difference`, `product` for the operations; and `held` where
 -- a result was stored. Then `in-range` answers the need that an operation does not overflow, and the field `is` rewrites the
 -- machine's value to the whole number. The bounds are numbers that compute: `tt` answers each test that a bound is below
 -- 2 ^ hbits w, where hbits w is the number of bits of w without the sign.
@@ -62,9 +62,9 @@ parameter {w} {z} f h = record { is = toZ-ofZ w z f; within = h }
 pub element : (w : Width) (l : List ℤ) (k : ℕ) {n : ℕ} → mag (getD l k (pos 0)) < 2 ^ hbits w → Within n (getD l k (pos 0)) → Reads (toZ w (ofZ w (getD l k (pos 0)))) (getD l k (pos 0)) n
 element w l k f h = parameter (record { sfits = f }) h
 
--- the result r of a call, which is known to be z
-pub result : (w : Width) {r z : ℤ} {n : ℕ} → r ≡ z → Within n r → T (ltb n (2 ^ hbits w)) → Reads (toZ w (ofZ w r)) z n
-result w {n} e h t = held w (record { is = e; within = subst (λ (x : ℤ). Within n x) e h }) t
+-- what a call returned is read back as it was, so it is the z of its contract; that it fits is the field `.ok` of the call
+pub returned : (w : Width) {r z : ℤ} → mag r < 2 ^ hbits w → r ≡ z → toZ w (ofZ w r) ≡ z
+returned w {r} h e = toZ-ofZ w r (record { sfits = h }) ∙ e
 
 -- ---- operations
 

@@ -1,17 +1,14 @@
 -- Coordinates as the code holds them: each is the whole number that is meant, and no larger than the grid allows. Here stand
 -- the readings of a coordinate, of a difference, of products and of a vector, which the leaves' proofs put together.
 -- Assumes nothing.
-use mathlib.Core.Path.{_≡_, refl, _∙_}
+use mathlib.Core.Path.{_≡_, refl}
 use mathlib.Core.List.{[], _∷_}
-use Prim.Native.Nat.{ℕ, zero, suc, _*_, _^_, _≤_, _<_}
+use Prim.Native.Nat.{ℕ, zero, suc, _*_, _^_, _≤_}
 use native.Mathlib.Omega.{arith}
 use lib.Dec.{T, ltb}
 use lib.IntN.{ℤ, natAbs, _-ℤ_, _*ℤ_}
-use lib.Signed.{mag}
 use mir.Syntax.{w64}
 use mir.Val.{toZ, ofZ, hbits}
-use mir.Facts.{toZ-ofZ}
-use borrow.Author.Needs.{sfits-of}
 use Rattle.algebra.proofs.Solver.{ring}
 use Rattle.algebra.proofs.Expression.{_⊞_, _⊠_}
 use Rattle.algebra.proofs.Machine.{Reads, exact, held, size, difference, product}
@@ -24,10 +21,6 @@ use Rattle.predicate.specs.Vectors.{Sized, differenceSize, minorSize, mi
 -- A number stored in 64 bits and read back.
 abbrev pub kept : ℤ → ℤ
 kept z = toZ w64 (ofZ w64 z)
-
--- What a call returned is read back as it was, so it is what its contract says.
-pub returned : {r z : ℤ} → mag r < 2 ^ hbits w64 → r ≡ z → kept r ≡ z
-returned h e = toZ-ofZ (sfits-of {w = w64} h) ∙ e
 
 -- Coordinate i of a point whose coordinates are no larger than n.
 pub coordinate : {n : ℕ} {a : Point} → T (ltb n (2 ^ hbits w64)) → Sized n a → (i : ℕ) →

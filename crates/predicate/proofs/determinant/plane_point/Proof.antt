@@ -7,7 +7,8 @@ use mathlib.Core.List.{[], _∷_}
 use Prim.Native.Nat.{ℕ, suc, _+_}
 use lib.IntN.{pos}
 use lib.ListN.{getD}
-use Rattle.predicate.proofs.Readings.{returned}
+use mir.Syntax.{w64}
+use Rattle.algebra.proofs.Machine.{returned}
 use Rattle.predicate.proofs.determinant.plane_point.Statement.{statement}
 use Rattle.predicate.proofs.determinant.plane_point.Tie as tie
 
@@ -24,8 +25,8 @@ returns : tie.Need-returns
 returns c =
     let a = c .before .before .args in
     let one : a .at + 1 ≡ suc (a .at) = omega arith in
-    let x = returned (c .before .number-at .ok) (c .before .number-at .ensures) in
-    let y = returned (c .number-at2 .ok) (c .number-at2 .ensures) ∙ ap (λ (k : ℕ). getD (a .numbers .now) k (pos 0)) one in
+    let x = returned w64 (c .before .number-at .ok) (c .before .number-at .ensures) in
+    let y = returned w64 (c .number-at2 .ok) (c .number-at2 .ensures) ∙ ap (λ (k : ℕ). getD (a .numbers .now) k (pos 0)) one in
     λ i. x i ∷ y i ∷ []
 
 pub plane-point-spec : {M : Type 1} → statement M

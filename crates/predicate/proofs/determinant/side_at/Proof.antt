@@ -2,9 +2,11 @@
 -- Assumes nothing.
 use borrow.Author.Needs.{needs}
 use mathlib.Core.Path.{_∙_}
+use mir.Syntax.{w64}
+use Rattle.algebra.proofs.Machine.{returned}
 use Rattle.shape.specs.Signs.{row}
 use Rattle.predicate.specs.Vectors.{spatial, minors, dot}
-use Rattle.predicate.proofs.Readings.{returned, determinant-by-minors}
+use Rattle.predicate.proofs.Readings.{determinant-by-minors}
 use Rattle.predicate.proofs.determinant.side_at.Statement.{statement}
 use Rattle.predicate.proofs.determinant.side_at.Tie as tie
 
@@ -30,7 +32,7 @@ returns c =
     let w = c .before .before .row-of3 .ensures .0 in
     let n = c .before .minors-of .ensures .0 ∙ (λ i. minors (v i) (w i)) in
     let p = c .before .before .before .before .before .args in
-    returned (c .dot-of .ok) (c .dot-of .ensures)
+    returned w64 (c .dot-of .ok) (c .dot-of .ensures)
     ∙ (λ i. dot (u i) (n i))
     ∙ determinant-by-minors (row (spatial (p .a)) (spatial (p .d))) (row (spatial (p .b)) (spatial (p .d))) (row (spatial (p .c)) (spatial (p .d)))
 

@@ -2,9 +2,10 @@
 -- Assumes nothing.
 use native.Mathlib.Omega.{arith}
 use mathlib.Core.Path.{_∙_}
+use mir.Syntax.{w64}
+use Rattle.algebra.proofs.Machine.{returned}
 use Rattle.shape.specs.Signs.{side}
 use Rattle.predicate.proofs.GridLaws.{sized-point}
-use Rattle.predicate.proofs.Readings.{returned}
 use Rattle.predicate.proofs.determinant.side_of.Statement.{statement}
 use Rattle.predicate.proofs.determinant.side_of.Tie as tie
 
@@ -35,7 +36,7 @@ returns c =
     let pb = c .before .before .before .space-point2 .ensures in
     let pc = c .before .before .space-point3 .ensures in
     let pd = c .before .space-point4 .ensures in
-    returned (c .side-at .ok) (c .side-at .ensures ∙ (λ i. side (pa i) (pb i) (pc i) (pd i)))
+    returned w64 (c .side-at .ok) (c .side-at .ensures ∙ (λ i. side (pa i) (pb i) (pc i) (pd i)))
 
 pub side-of-spec : {M : Type 1} → statement M
 side-of-spec = tie.close (tie.spec space-point-requires space-point-requires-2 space-point-requires-3 space-point-requires-4 side-at-requires returns)

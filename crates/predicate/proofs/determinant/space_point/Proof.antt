@@ -7,7 +7,8 @@ use mathlib.Core.List.{[], _∷_}
 use Prim.Native.Nat.{ℕ, suc, _+_}
 use lib.IntN.{pos}
 use lib.ListN.{getD}
-use Rattle.predicate.proofs.Readings.{returned}
+use mir.Syntax.{w64}
+use Rattle.algebra.proofs.Machine.{returned}
 use Rattle.predicate.proofs.determinant.space_point.Statement.{statement}
 use Rattle.predicate.proofs.determinant.space_point.Tie as tie
 
@@ -31,9 +32,9 @@ returns c =
     let a = c .before .before .before .args in
     let one : a .at + 1 ≡ suc (a .at) = omega arith in
     let two : a .at + 2 ≡ suc (suc (a .at)) = omega arith in
-    let x = returned (c .before .before .number-at .ok) (c .before .before .number-at .ensures) in
-    let y = returned (c .before .number-at2 .ok) (c .before .number-at2 .ensures) ∙ ap (λ (k : ℕ). getD (a .numbers .now) k (pos 0)) one in
-    let z = returned (c .number-at3 .ok) (c .number-at3 .ensures) ∙ ap (λ (k : ℕ). getD (a .numbers .now) k (pos 0)) two in
+    let x = returned w64 (c .before .before .number-at .ok) (c .before .before .number-at .ensures) in
+    let y = returned w64 (c .before .number-at2 .ok) (c .before .number-at2 .ensures) ∙ ap (λ (k : ℕ). getD (a .numbers .now) k (pos 0)) one in
+    let z = returned w64 (c .number-at3 .ok) (c .number-at3 .ensures) ∙ ap (λ (k : ℕ). getD (a .numbers .now) k (pos 0)) two in
     λ i. x i ∷ y i ∷ z i ∷ []
 
 pub space-point-spec : {M : Type 1} → statement M

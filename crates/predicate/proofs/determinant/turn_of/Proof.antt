@@ -2,9 +2,10 @@
 -- Assumes nothing.
 use native.Mathlib.Omega.{arith}
 use mathlib.Core.Path.{_∙_}
+use mir.Syntax.{w64}
+use Rattle.algebra.proofs.Machine.{returned}
 use Rattle.shape.specs.Signs.{turn}
 use Rattle.predicate.proofs.GridLaws.{sized-point}
-use Rattle.predicate.proofs.Readings.{returned}
 use Rattle.predicate.proofs.determinant.turn_of.Statement.{statement}
 use Rattle.predicate.proofs.determinant.turn_of.Tie as tie
 
@@ -30,7 +31,7 @@ returns c =
     let pa = c .before .before .before .plane-point .ensures in
     let pb = c .before .before .plane-point2 .ensures in
     let pc = c .before .plane-point3 .ensures in
-    returned (c .turn-at .ok) (c .turn-at .ensures ∙ (λ i. turn (pa i) (pb i) (pc i)))
+    returned w64 (c .turn-at .ok) (c .turn-at .ensures ∙ (λ i. turn (pa i) (pb i) (pc i)))
 
 pub turn-of-spec : {M : Type 1} → statement M
 turn-of-spec = tie.close (tie.spec plane-point-requires plane-point-requires-2 plane-point-requires-3 turn-at-requires returns)

@@ -2,8 +2,9 @@
 -- Assumes nothing.
 use borrow.Author.Needs.{needs}
 use mathlib.Core.Path.{ap, _∙_}
+use mir.Syntax.{w64}
+use Rattle.algebra.proofs.Machine.{returned}
 use Rattle.predicate.specs.Answers.{served}
-use Rattle.predicate.proofs.Readings.{returned}
 use Rattle.predicate.proofs.ValueLaws.{checks-refuse, checks-serve, checks-ready}
 use Rattle.predicate.proofs.signs.side_value.Statement.{statement}
 use Rattle.predicate.proofs.signs.side_value.Tie as tie
@@ -30,7 +31,7 @@ returns c =
 returns-2 : tie.Need-returns-2
 returns-2 c =
     let p = c .before .before .before in
-    ap served (returned (c .side-of .ok) (c .side-of .ensures))
+    ap served (returned w64 (c .side-of .ok) (c .side-of .ensures))
     ∙ checks-serve 3 (p .before .args .points .now) (p .points-checked .result) (p .points-checked .ensures) (c .before .enum-told .given .1)
 
 pub side-value-spec : {M : Type 1} → statement M
