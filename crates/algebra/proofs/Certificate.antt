@@ -177,18 +177,30 @@ positive ρ hs (eqn i e) p t = absurd t
 positive ρ hs (sqr e) p t = absurd t
 positive ρ hs (num zero) p t = absurd t
 positive ρ hs (num (suc n)) p t = 0<-pos (suc n) (omega arith)
-positive ρ hs (a ⊕ b) p t = or-positive (strict hs a) (strict hs b) (value ρ (sumOf hs a)) (value ρ (sumOf hs b)) (nonneg ρ hs a p) (nonneg ρ hs b p) (positive ρ hs a p) (positive ρ hs b p) t
+positive ρ hs (a ⊕ b) p t =
+    or-positive (strict hs a) (strict hs b) (value ρ (sumOf hs a)) (value ρ (sumOf hs b))
+    (nonneg ρ hs a p) (nonneg ρ hs b p) (positive ρ hs a p) (positive ρ hs b p) t
 positive ρ hs (a ⊗ b) p t = and-positive (strict hs a) (strict hs b) (value ρ (sumOf hs a)) (value ρ (sumOf hs b)) (positive ρ hs a p) (positive ρ hs b p) t
 
 -- ---- inequalities
 
 -- a ≤ b, where s · (b − a) = c, s is positive and c is not negative
-pub prove≤ : (ρ : List ℤ) (hs : List Rel) (a b : Ex) (s c : Cert) → T (strict hs s) → T (lowDegree (sumOf hs s ⊠ (b ⊟ a)) (sumOf hs c)) → Same (sumOf hs s ⊠ (b ⊟ a)) (sumOf hs c) → Imp ρ hs (value ρ a ≤ℤ value ρ b)
-prove≤ ρ hs a b s c t l e = curry ρ hs (value ρ a ≤ℤ value ρ b) (λ p. le-of-sub (0≤-div (positive ρ hs s p t) (subst (λ (z : ℤ). pos 0 ≤ℤ z) (sym (ring ρ (sumOf hs s ⊠ (b ⊟ a)) (sumOf hs c) l e)) (nonneg ρ hs c p))))
+pub prove≤ : (ρ : List ℤ) (hs : List Rel) (a b : Ex) (s c : Cert) → T (strict hs s) →
+    T (lowDegree (sumOf hs s ⊠ (b ⊟ a)) (sumOf hs c)) → Same (sumOf hs s ⊠ (b ⊟ a)) (sumOf hs c) →
+    Imp ρ hs (value ρ a ≤ℤ value ρ b)
+prove≤ ρ hs a b s c t l e =
+    curry ρ hs (value ρ a ≤ℤ value ρ b)
+    (λ p. le-of-sub (0≤-div (positive ρ hs s p t)
+    (subst (λ (z : ℤ). pos 0 ≤ℤ z) (sym (ring ρ (sumOf hs s ⊠ (b ⊟ a)) (sumOf hs c) l e)) (nonneg ρ hs c p))))
 
 -- a < b, where s · (b − a) = c, s is not negative and c is positive
-pub prove< : (ρ : List ℤ) (hs : List Rel) (a b : Ex) (s c : Cert) → T (strict hs c) → T (lowDegree (sumOf hs s ⊠ (b ⊟ a)) (sumOf hs c)) → Same (sumOf hs s ⊠ (b ⊟ a)) (sumOf hs c) → Imp ρ hs (value ρ a <ℤ value ρ b)
-prove< ρ hs a b s c t l e = curry ρ hs (value ρ a <ℤ value ρ b) (λ p. lt-of-sub (0<-div (nonneg ρ hs s p) (subst (λ (z : ℤ). pos 0 <ℤ z) (sym (ring ρ (sumOf hs s ⊠ (b ⊟ a)) (sumOf hs c) l e)) (positive ρ hs c p t))))
+pub prove< : (ρ : List ℤ) (hs : List Rel) (a b : Ex) (s c : Cert) → T (strict hs c) →
+    T (lowDegree (sumOf hs s ⊠ (b ⊟ a)) (sumOf hs c)) → Same (sumOf hs s ⊠ (b ⊟ a)) (sumOf hs c) →
+    Imp ρ hs (value ρ a <ℤ value ρ b)
+prove< ρ hs a b s c t l e =
+    curry ρ hs (value ρ a <ℤ value ρ b)
+    (λ p. lt-of-sub (0<-div (nonneg ρ hs s p)
+    (subst (λ (z : ℤ). pos 0 <ℤ z) (sym (ring ρ (sumOf hs s ⊠ (b ⊟ a)) (sumOf hs c) l e)) (positive ρ hs c p t))))
 
 -- the hypotheses cannot all hold: a positive certificate is zero
 pub prove⊥ : (ρ : List ℤ) (hs : List Rel) (c : Cert) → T (strict hs c) → T (lowDegree (sumOf hs c) (lit (pos 0))) → Same (sumOf hs c) (lit (pos 0)) → Imp ρ hs ⊥
@@ -235,5 +247,11 @@ is-zero ρ hs (a ⊕ b) p t = and-zero (isZero hs a) (isZero hs b) (value ρ (su
 is-zero ρ hs (a ⊗ b) p t = or-zero (isZero hs a) (isZero hs b) (value ρ (sumOf hs a)) (value ρ (sumOf hs b)) (is-zero ρ hs a p) (is-zero ρ hs b p) t
 
 -- a = b, where s · (b − a) = c, s is positive and c is zero
-pub prove≡ : (ρ : List ℤ) (hs : List Rel) (a b : Ex) (s c : Cert) → T (strict hs s) → T (isZero hs c) → T (lowDegree (sumOf hs s ⊠ (b ⊟ a)) (sumOf hs c)) → Same (sumOf hs s ⊠ (b ⊟ a)) (sumOf hs c) → Imp ρ hs (value ρ a ≡ value ρ b)
-prove≡ ρ hs a b s c t z l e = curry ρ hs (value ρ a ≡ value ρ b) (λ p. eq-of-sub (value ρ a) (value ρ b) (zero-of-mul (value ρ (sumOf hs s)) (value ρ b -ℤ value ρ a) (positive ρ hs s p t) (ring ρ (sumOf hs s ⊠ (b ⊟ a)) (sumOf hs c) l e ∙ is-zero ρ hs c p z)))
+pub prove≡ : (ρ : List ℤ) (hs : List Rel) (a b : Ex) (s c : Cert) → T (strict hs s) → T (isZero hs c) →
+    T (lowDegree (sumOf hs s ⊠ (b ⊟ a)) (sumOf hs c)) → Same (sumOf hs s ⊠ (b ⊟ a)) (sumOf hs c) →
+    Imp ρ hs (value ρ a ≡ value ρ b)
+prove≡ ρ hs a b s c t z l e =
+    curry ρ hs (value ρ a ≡ value ρ b)
+    (λ p. eq-of-sub (value ρ a) (value ρ b)
+    (zero-of-mul (value ρ (sumOf hs s)) (value ρ b -ℤ value ρ a) (positive ρ hs s p t)
+    (ring ρ (sumOf hs s ⊠ (b ⊟ a)) (sumOf hs c) l e ∙ is-zero ρ hs c p z)))

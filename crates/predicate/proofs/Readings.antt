@@ -3,15 +3,15 @@
 -- Assumes nothing.
 use mathlib.Core.Path.{_≡_, refl}
 use mathlib.Core.List.{[], _∷_}
-use Prim.Native.Nat.{ℕ, zero, suc, _*_, _^_, _≤_}
+use Prim.Native.Nat.{ℕ, zero, suc, _+_, _*_, _^_, _≤_}
 use native.Mathlib.Omega.{arith}
 use lib.Dec.{T, ltb}
-use lib.IntN.{ℤ, natAbs, _-ℤ_, _*ℤ_}
+use lib.IntN.{ℤ, natAbs, _+ℤ_, _-ℤ_, _*ℤ_}
 use mir.Syntax.{w64}
 use mir.Val.{toZ, ofZ, hbits}
 use Rattle.algebra.proofs.Solver.{ring}
 use Rattle.algebra.proofs.Expression.{_⊞_, _⊠_}
-use Rattle.algebra.proofs.Machine.{Reads, exact, held, size, difference, product}
+use Rattle.algebra.proofs.Machine.{Reads, exact, held, size, sum, difference, product}
 use Rattle.shape.specs.Points.{Point, coord}
 use Rattle.shape.specs.Signs.{minor, determinant}
 use Rattle.shape.proofs.Symbols.{values, point, minorE, determinantE}
@@ -45,6 +45,23 @@ times t t′ s r i j = product (coordinate t s i) (coordinate t′ r j)
 pub minor-read : {u v : Point} → Sized differenceSize u → Sized differenceSize v → (i j : ℕ) →
     Reads (kept (kept (coord i u) *ℤ kept (coord j v)) -ℤ kept (kept (coord j u) *ℤ kept (coord i v))) (minor i j u v) minorSize
 minor-read s r i j = difference (held w64 (times tt tt s r i j) tt) (held w64 (times tt tt s r j i) tt)
+
+-- The products of a row of differences and a vector of minors, summed from the left, each step stored: after two and after all.
+module _ {u n : Point} (s : Sized differenceSize u) (r : Sized minorSize n) where
+  abbrev product-at : ℕ → ℤ
+  product-at i = kept (coord i u) *ℤ kept (coord i n)
+
+  abbrev productSize : ℕ
+  productSize = differenceSize * minorSize
+
+  stored : (i : ℕ) → Reads (kept (product-at i)) (coord i u *ℤ coord i n) productSize
+  stored i = held w64 (times tt tt s r i i) tt
+
+  pub two-products : Reads (kept (product-at 0) +ℤ kept (product-at 1)) (coord 0 u *ℤ coord 0 n +ℤ coord 1 u *ℤ coord 1 n) (productSize + productSize)
+  two-products = sum (stored 0) (stored 1)
+
+  pub three-products : Reads (kept (kept (product-at 0) +ℤ kept (product-at 1)) +ℤ kept (product-at 2)) (dot u n) (productSize + productSize + productSize)
+  three-products = sum (held w64 two-products tt) (stored 2)
 
 -- Three readings make a vector: it is the one meant, and no coordinate is larger than n.
 pub vector : {x y z x′ y′ z′ : ℤ} {n : ℕ} → Reads x x′ n → Reads y y′ n → Reads z z′ n →

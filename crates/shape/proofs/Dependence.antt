@@ -1,7 +1,7 @@
 -- Meeting by a dependence. For n + 2 points in n coordinates the brackets that leave out one point each, with alternating
--- signs, add up to zero, and so do they as weights of the points. So where those of the first few points are not negative,
--- those of the others not positive and one is not zero, they are the weights of a common point of the shape of the first
--- few and the shape of the others. Every "yes" of the tests is an instance of `meet-by-dependence`. Assumes nothing.
+-- signs, add up to zero, and so do the points with them as weights (`Balanced`). Cut the list of points in two. Where the
+-- numbers of the first part are not negative and not all zero, and those of the second not positive, they are the weights of
+-- a common point of the two parts. Every "yes" of the tests is an instance of `meet-by-dependence`. Assumes nothing.
 use mathlib.Core.Path.{_≡_, refl, sym, _∙_, ap}
 use mathlib.Core.List.{List, [], _∷_, _++_, map}
 use Prim.Native.Nat.{ℕ, zero, suc, _+_, _<_}
@@ -137,6 +137,7 @@ firstWeights P Q = take (length P) (dependence (P ++ Q))
 abbrev pub secondWeights : Shape → Shape → List ℤ
 secondWeights P Q = map negℤ (drop (length P) (dependence (P ++ Q)))
 
+-- The numbers are the weights. That they are not all zero is asked as a positive sum of the first part.
 pub meet-by-dependence : {n : ℕ} (P Q : Shape) → Balanced n (P ++ Q) →
     NonNegative (firstWeights P Q) → NonNegative (secondWeights P Q) → pos 0 <ℤ totalℤ (firstWeights P Q) → Share n P Q
 meet-by-dependence P Q b hP hQ some =

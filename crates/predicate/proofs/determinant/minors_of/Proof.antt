@@ -7,31 +7,49 @@ use Rattle.predicate.proofs.determinant.minors_of.Statement.{statement}
 use Rattle.predicate.proofs.determinant.minors_of.Tie as tie
 
 mul-t3 : tie.Need-mul-t3
-mul-t3 c = let p = c .before .before .before .before .pre in in-range (times tt tt (p .0) (p .1) 1 2) tt
+mul-t3 c =
+    let p = c .before .before .before .before .pre in
+    in-range (times tt tt (p .0) (p .1) 1 2) tt
 
 mul-t4 : tie.Need-mul-t4
-mul-t4 c = let p = c .before .before .before .before .before .before .before .before .pre in in-range (times tt tt (p .0) (p .1) 2 1) tt
+mul-t4 c =
+    let p = c .before .before .before .before .before .before .before .before .pre in
+    in-range (times tt tt (p .0) (p .1) 2 1) tt
 
 sub-t5 : tie.Need-sub-t5
-sub-t5 c = let p = c .before .before .before .before .before .before .before .before .pre in in-range (minor-read (p .0) (p .1) 1 2) tt
+sub-t5 c =
+    let p = c .before .before .before .before .before .before .before .before .pre in
+    in-range (minor-read (p .0) (p .1) 1 2) tt
 
 mul-t6 : tie.Need-mul-t6
-mul-t6 c = let p = c .before .before .before .before .before .before .before .before .before .before .before .before .pre in in-range (times tt tt (p .0) (p .1) 2 0) tt
+mul-t6 c =
+    let p = c .before .before .before .before .before .before .before .before .before .before .before .before .pre in
+    in-range (times tt tt (p .0) (p .1) 2 0) tt
 
 mul-t7 : tie.Need-mul-t7
-mul-t7 c = let p = c .before .before .before .before .before .before .before .before .before .before .before .before .before .before .before .before .pre in in-range (times tt tt (p .0) (p .1) 0 2) tt
+mul-t7 c =
+    let p = c .before .before .before .before .before .before .before .before .before .before .before .before .before .before .before .before .pre in
+    in-range (times tt tt (p .0) (p .1) 0 2) tt
 
 sub-t8 : tie.Need-sub-t8
-sub-t8 c = let p = c .before .before .before .before .before .before .before .before .before .before .before .before .before .before .before .before .pre in in-range (minor-read (p .0) (p .1) 2 0) tt
+sub-t8 c =
+    let p = c .before .before .before .before .before .before .before .before .before .before .before .before .before .before .before .before .pre in
+    in-range (minor-read (p .0) (p .1) 2 0) tt
 
 mul-t9 : tie.Need-mul-t9
-mul-t9 c = let p = c .before .before .before .before .before .before .before .before .before .before .before .before .before .before .before .before .before .before .before .before .pre in in-range (times tt tt (p .0) (p .1) 0 1) tt
+mul-t9 c =
+    let p = c .before .before .before .before .before .before .before .before .before .before .before .before .before .before .before .before .before .before .before .before .pre in
+    in-range (times tt tt (p .0) (p .1) 0 1) tt
 
 mul-t10 : tie.Need-mul-t10
-mul-t10 c = let p = c .before .before .before .before .before .before .before .before .before .before .before .before .before .before .before .before .before .before .before .before .before .before .before .before .pre in in-range (times tt tt (p .0) (p .1) 1 0) tt
+mul-t10 c =
+    let p = c .before .before .before .before .before .before .before .before .before .before .before .before .before .before .before .before .before .before .before .before .before .before .before .before .pre in
+    in-range (times tt tt (p .0) (p .1) 1 0) tt
 
 sub-t11 : tie.Need-sub-t11
-sub-t11 c = let p = c .before .before .before .before .before .before .before .before .before .before .before .before .before .before .before .before .before .before .before .before .before .before .before .before .pre in in-range (minor-read (p .0) (p .1) 0 1) tt
+sub-t11 c =
+    let p = c .before .before .before .before .before .before .before .before .before .before .before .before .before .before .before .before .before .before .before .before .before .before .before .before .pre in
+    in-range (minor-read (p .0) (p .1) 0 1) tt
 
 returns : tie.Need-returns
 returns c =

@@ -6,13 +6,19 @@ use Rattle.predicate.proofs.determinant.row_of.Statement.{statement}
 use Rattle.predicate.proofs.determinant.row_of.Tie as tie
 
 sub-t3 : tie.Need-sub-t3
-sub-t3 c = let p = c .before .before .before .before .pre in in-range (gap (p .0) (p .1) 0) tt
+sub-t3 c =
+    let p = c .before .before .before .before .pre in
+    in-range (gap (p .0) (p .1) 0) tt
 
 sub-t4 : tie.Need-sub-t4
-sub-t4 c = let p = c .before .before .before .before .before .before .before .before .pre in in-range (gap (p .0) (p .1) 1) tt
+sub-t4 c =
+    let p = c .before .before .before .before .before .before .before .before .pre in
+    in-range (gap (p .0) (p .1) 1) tt
 
 sub-t5 : tie.Need-sub-t5
-sub-t5 c = let p = c .before .before .before .before .before .before .before .before .before .before .before .before .pre in in-range (gap (p .0) (p .1) 2) tt
+sub-t5 c =
+    let p = c .before .before .before .before .before .before .before .before .before .before .before .before .pre in
+    in-range (gap (p .0) (p .1) 2) tt
 
 returns : tie.Need-returns
 returns c =

@@ -7,22 +7,34 @@ use Rattle.predicate.proofs.determinant.turn_at.Statement.{statement}
 use Rattle.predicate.proofs.determinant.turn_at.Tie as tie
 
 sub-result : tie.Need-sub-result
-sub-result c = let p = c .before .before .before .before .pre in in-range (gap (p .0) (p .2) 0) tt
+sub-result c =
+    let p = c .before .before .before .before .pre in
+    in-range (gap (p .0) (p .2) 0) tt
 
 sub-result-2 : tie.Need-sub-result-2
-sub-result-2 c = let p = c .before .before .before .before .before .before .before .before .pre in in-range (gap (p .1) (p .2) 1) tt
+sub-result-2 c =
+    let p = c .before .before .before .before .before .before .before .before .pre in
+    in-range (gap (p .1) (p .2) 1) tt
 
 mul-result : tie.Need-mul-result
-mul-result c = let p = c .before .before .before .before .before .before .before .before .pre in in-range (product (stored-gap (p .0) (p .2) 0) (stored-gap (p .1) (p .2) 1)) tt
+mul-result c =
+    let p = c .before .before .before .before .before .before .before .before .pre in
+    in-range (product (stored-gap (p .0) (p .2) 0) (stored-gap (p .1) (p .2) 1)) tt
 
 sub-result-3 : tie.Need-sub-result-3
-sub-result-3 c = let p = c .before .before .before .before .before .before .before .before .before .before .before .before .pre in in-range (gap (p .0) (p .2) 1) tt
+sub-result-3 c =
+    let p = c .before .before .before .before .before .before .before .before .before .before .before .before .pre in
+    in-range (gap (p .0) (p .2) 1) tt
 
 sub-result-4 : tie.Need-sub-result-4
-sub-result-4 c = let p = c .before .before .before .before .before .before .before .before .before .before .before .before .before .before .before .before .pre in in-range (gap (p .1) (p .2) 0) tt
+sub-result-4 c =
+    let p = c .before .before .before .before .before .before .before .before .before .before .before .before .before .before .before .before .pre in
+    in-range (gap (p .1) (p .2) 0) tt
 
 mul-result-2 : tie.Need-mul-result-2
-mul-result-2 c = let p = c .before .before .before .before .before .before .before .before .before .before .before .before .before .before .before .before .pre in in-range (product (stored-gap (p .0) (p .2) 1) (stored-gap (p .1) (p .2) 0)) tt
+mul-result-2 c =
+    let p = c .before .before .before .before .before .before .before .before .before .before .before .before .before .before .before .before .pre in
+    in-range (product (stored-gap (p .0) (p .2) 1) (stored-gap (p .1) (p .2) 0)) tt
 
 sub-result-5 : tie.Need-sub-result-5
 sub-result-5 c =
