@@ -113,6 +113,10 @@ sub-pos {a} {b} h = record { lt = one-le→lt (b -ℤ a) (diff-one a b (h .lt)) 
 pub lt-of-sub : {a b : ℤ} → pos 0 <ℤ (b -ℤ a) → a <ℤ b
 lt-of-sub {a} {b} h = record { lt = diff-one⁻ a b (lt→one-le (b -ℤ a) (h .lt)) }
 
+-- above zero is at least one: these are whole numbers
+pub one-le : {z : ℤ} → pos 0 <ℤ z → pos 1 ≤ℤ z
+one-le {z} h = record { le = lt→one-le z (h .lt) }
+
 -- ---- the three signs
 
 -- z is negative, zero or positive

@@ -1,6 +1,6 @@
 -- What the tests of the grid tell: of one number, and of the lowest position off the grid. Assumes nothing.
 use mathlib.Core.Path.{_≡_, refl, sym, ap, _∙_, subst}
-use mathlib.Core.Bool.{Bool, true, false, not, cond}
+use mathlib.Core.Bool.{Bool, true, false, not, cond, true≢false}
 use mathlib.Core.List.{List, [], _∷_}
 use Prim.Native.Nat.{ℕ, zero, suc, _^_, _<_, _≤_}
 use native.Mathlib.Omega.{arith}
@@ -18,11 +18,8 @@ use Rattle.predicate.specs.Grid.{limit, onGrid, lowestOff, Ready}
 use Rattle.predicate.specs.Vectors.{Sized}
 
 -- ---- one number, against a limit m + 1
-passes-not : false ≡ true → ⊥
-passes-not h = let z : _≡_ {A = ℕ} 0 1 = cc in omega arith
-
 pub below-limit : (m : ℕ) (z : ℤ) → ltZ z (negsuc m) ≡ true → true ≡ not (leb (natAbs z) (suc m))
-below-limit m (pos n) h = absurd (passes-not h)
+below-limit m (pos n) h = absurd (true≢false (sym h))
 below-limit m (negsuc n) h = ap not (sym (lt-leb (suc n) (suc m) (omega (arith, ltb-true m n h))))
 
 pub not-below-limit : (m : ℕ) (z : ℤ) → ltZ z (negsuc m) ≡ false → ltZ (pos (suc m)) z ≡ not (leb (natAbs z) (suc m))
@@ -64,6 +61,28 @@ all-on (z ∷ l) h k = first (onGrid z) refl (all-on l) k h
     first true e rest zero g = leb-true (natAbs z) limit e
     first true e rest (suc k) g = rest (omega arith) k
     first false e rest k g = absurd (omega arith)
+
+-- Position p is the lowest of the list whose number is off the grid.
+pub record Lowest (l : List ℤ) (p : ℕ) : Type 0 where
+  pub inside : p < length l
+  pub off : limit < natAbs (getD l p (pos 0))
+  pub before : (k : ℕ) → k < p → natAbs (getD l k (pos 0)) ≤ limit
+
+-- The place that the rule computes is that position, where there is one.
+pub lowest : (l : List ℤ) → lowestOff l < length l → Lowest l (lowestOff l)
+lowest [] h = absurd (omega arith)
+lowest (z ∷ l) h = first (onGrid z) refl h (lowest l)
+  where
+    first : (t : Bool) → onGrid z ≡ t → cond t (suc (lowestOff l)) 0 < suc (length l) → (lowestOff l < length l → Lowest l (lowestOff l)) →
+        Lowest (z ∷ l) (cond t (suc (lowestOff l)) 0)
+    first true e g rest =
+        let r = rest (omega arith) in
+        record { inside = g; off = r .off; before = each (r .before) }
+      where
+        each : ((k : ℕ) → k < lowestOff l → natAbs (getD l k (pos 0)) ≤ limit) → (k : ℕ) → k < suc (lowestOff l) → natAbs (getD (z ∷ l) k (pos 0)) ≤ limit
+        each b zero p = leb-true (natAbs z) limit e
+        each b (suc k) p = b k (omega arith)
+    first false e g rest = record { inside = g; off = leb-false (natAbs z) limit e; before = λ k p. absurd (omega arith) }
 
 -- ---- the points of a list whose numbers are all on the grid
 module _ {want : ℕ} {l : List ℤ} (ready : Ready want l) where

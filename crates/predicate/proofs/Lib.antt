@@ -1,7 +1,8 @@
--- The laws that the proofs of several functions share.
+-- What the proofs of several functions share (Readings, GridLaws, CheckLaws, ValueLaws), and the theorems that stand beside the
+-- contracts: no second answer (Unique), each reason exactly in its case (Exactly).
 pub mod Readings
 pub mod GridLaws
-pub mod AnswerLaws
+pub mod CheckLaws
+pub mod Exactly
 pub mod ValueLaws
 pub mod Unique
-pub mod Exactly

@@ -13,7 +13,7 @@ use Rattle.algebra.proofs.Solver.{ring}
 use Rattle.algebra.proofs.Expression.{_⊞_, _⊠_}
 use Rattle.algebra.proofs.Machine.{Reads, exact, held, size, sum, difference, product}
 use Rattle.shape.specs.Points.{Point, coord}
-use Rattle.shape.specs.Signs.{minor, determinant}
+use Rattle.shape.specs.Signs.{turn, minor, determinant}
 use Rattle.shape.proofs.Symbols.{values, point, minorE, determinantE}
 use Rattle.predicate.specs.Grid.{limit}
 use Rattle.predicate.specs.Vectors.{Sized, differenceSize, minorSize, minors, dot}
@@ -32,9 +32,19 @@ pub gap : {a c : Point} → Sized limit a → Sized limit c → (i : ℕ) →
     Reads (kept (coord i a) -ℤ kept (coord i c)) (coord i a -ℤ coord i c) differenceSize
 gap s t i = difference (coordinate tt s i) (coordinate tt t i)
 
-pub stored-gap : {a c : Point} → Sized limit a → Sized limit c → (i : ℕ) →
-    Reads (kept (kept (coord i a) -ℤ kept (coord i c))) (coord i a -ℤ coord i c) differenceSize
+abbrev pub storedGap : ℕ → Point → Point → ℤ
+storedGap i a c = kept (kept (coord i a) -ℤ kept (coord i c))
+
+pub stored-gap : {a c : Point} → Sized limit a → Sized limit c → (i : ℕ) → Reads (storedGap i a c) (coord i a -ℤ coord i c) differenceSize
 stored-gap s t i = held w64 (gap s t i) tt
+
+-- The turn of three points, whose differences and products were stored.
+pub turn-read : {a b c : Point} → Sized limit a → Sized limit b → Sized limit c →
+    Reads (kept (storedGap 0 a c *ℤ storedGap 1 b c) -ℤ kept (storedGap 1 a c *ℤ storedGap 0 b c)) (turn a b c) minorSize
+turn-read p q r =
+    difference
+    (held w64 (product (stored-gap p r 0) (stored-gap q r 1)) tt)
+    (held w64 (product (stored-gap p r 1) (stored-gap q r 0)) tt)
 
 -- A product of two coordinates.
 pub times : {m n : ℕ} {u v : Point} → T (ltb m (2 ^ hbits w64)) → T (ltb n (2 ^ hbits w64)) → Sized m u → Sized n v → (i j : ℕ) →

@@ -2,9 +2,9 @@
 -- Assumes nothing.
 use mathlib.Core.Path.{_≡_, refl, sym, ap, _∙_}
 use mathlib.Core.List.{List}
-use Prim.Native.Nat.{ℕ}
+use Prim.Native.Nat.{ℕ, zero, suc}
 use native.Mathlib.Omega.{arith}
-use lib.IntN.{ℤ}
+use lib.IntN.{ℤ, pos, negsuc}
 use Rattle.predicate.specs.Answers.{Answer, served}
 use Rattle.predicate.specs.Rules.{valueRule, signRule}
 use Rattle.predicate.specs.Told.{signNumber, toldRefusal, toldSign, toldValue}
@@ -28,17 +28,20 @@ refusal-fixed why why′ e =
     let place : why .place ≡ why′ .place = cc in
     λ i. record { number = number i; side = side i; place = place i }
 
--- ---- the same sign
+-- ---- the same sign: a sign is read back off its number
+signBack : ℤ → Sign
+signBack (negsuc n) = Negative
+signBack (pos zero) = Zero
+signBack (pos (suc n)) = Positive
+
+sign-back : (a : Sign) → signBack (signNumber a) ≡ a
+unfolding signBack
+sign-back Negative = refl
+sign-back Zero = refl
+sign-back Positive = refl
+
 sign-fixed : (a b : Sign) → signNumber a ≡ signNumber b → a ≡ b
-sign-fixed Negative Negative e = refl
-sign-fixed Negative Zero e = let z : _≡_ {A = ℕ} 0 1 = cc in absurd (omega arith)
-sign-fixed Negative Positive e = let z : _≡_ {A = ℕ} 0 1 = cc in absurd (omega arith)
-sign-fixed Zero Negative e = let z : _≡_ {A = ℕ} 0 1 = cc in absurd (omega arith)
-sign-fixed Zero Zero e = refl
-sign-fixed Zero Positive e = let z : _≡_ {A = ℕ} 0 1 = cc in absurd (omega arith)
-sign-fixed Positive Negative e = let z : _≡_ {A = ℕ} 0 1 = cc in absurd (omega arith)
-sign-fixed Positive Zero e = let z : _≡_ {A = ℕ} 0 1 = cc in absurd (omega arith)
-sign-fixed Positive Positive e = refl
+sign-fixed a b e = sym (sign-back a) ∙ ap signBack e ∙ sign-back b
 
 -- ---- the answers
 sign-answer-fixed : (r s : SignAnswer) → toldSign r ≡ toldSign s → r ≡ s

@@ -98,6 +98,7 @@ fn minors_of(v: SpacePoint, w: SpacePoint) -> SpacePoint
     }
 }
 
+// The product of a row and the minors of the two others: with them the determinant.
 fn dot_of(u: SpacePoint, n: SpacePoint) -> i64
     requires { ⌜ Sized differenceSize (spatial u) × Sized minorSize (spatial n) ⌝ }
     ensures { λ r. ⌜ r ≡ dot (spatial u) (spatial n) ⌝ }
@@ -126,6 +127,7 @@ pub fn side_of(points: &[i32]) -> i64
     )
 }
 
+// The sign of a determinant.
 pub fn sign_of(z: i64) -> Sign
     ensures { λ r. ⌜ signNumber r ≡ sign z ⌝ }
 {

@@ -15,6 +15,7 @@ pub enum Checked {
     Refused(Refusal),
 }
 
+// Whether a number is off the grid.
 pub fn off_grid(z: i32) -> bool
     ensures { λ r. ⌜ r ≡ not (onGrid z) ⌝ }
 {

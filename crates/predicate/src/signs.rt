@@ -43,6 +43,7 @@ pub fn side_value(points: &[i32]) -> ValueAnswer
     }
 }
 
+// The same answer with the sign of the value.
 fn signed(value: ValueAnswer) -> SignAnswer
     ensures { λ r. ⌜ toldSign r ≡ withServed sign (toldValue value) ⌝ }
 {

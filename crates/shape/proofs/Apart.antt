@@ -5,10 +5,10 @@ use mathlib.Core.List.{List, [], _∷_}
 use Prim.Native.Nat.{ℕ, suc, _+_, _≤_}
 use native.Mathlib.Omega.{arith}
 use lib.ListN.{length}
-use lib.IntN.{ℤ, pos, negsuc, _+ℤ_, _*ℤ_}
+use lib.IntN.{ℤ, pos, _+ℤ_, _*ℤ_}
 use lib.Signed.{_≤ℤ_, _<ℤ_}
 use Rattle.algebra.proofs.Expression.{var, lit, _⊠_}
-use Rattle.algebra.proofs.Order.{0<-pos}
+use Rattle.algebra.proofs.Order.{0<-pos, one-le}
 use Rattle.algebra.proofs.Certificate.{_≦_, _≺_, hyp, _⊕_, prove⊥}
 use Rattle.shape.specs.Points.{Point, Shape, coord}
 use Rattle.shape.specs.Sharing.{weigh, PointOf, Share}
@@ -53,10 +53,6 @@ module _ {n : ℕ} {P : Shape} {s : ℕ} {x : Point} (p : PointOf n P s x) where
       subst (λ (z : ℤ). (pos s *ℤ pos 1) ≤ℤ z) (weigh-functional cs m l)
       (subst (λ (z : ℤ). z ≤ℤ weigh (functional cs m) (p .weights) P) (weigh-const (pos 1) (p .weights) P (p .each) ∙ ap (λ (t : ℕ). pos t *ℤ pos 1) (p .sum))
       (weigh-le (λ a. pos 1) (functional cs m) (p .weights) P h))
-
-one-le : {z : ℤ} → pos 0 <ℤ z → pos 1 ≤ℤ z
-one-le {z = pos n} h = record { le = h .lt }
-one-le {z = negsuc n} h = absurd (h .lt)
 
 every-one : (f : Point → ℤ) (Q : Shape) → Every (λ a. pos 0 <ℤ f a) Q → Every (λ a. pos 1 ≤ℤ f a) Q
 every-one f [] h = tt

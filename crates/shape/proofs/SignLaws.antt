@@ -2,7 +2,7 @@
 -- Only the first, that two neighbours trade places, and the last, on moving, look at the formulas: the others follow from
 -- the first for any number of points. Assumes nothing.
 use mathlib.Core.Path.{_≡_, refl, sym, _∙_, ap}
-use mathlib.Core.List.{List, [], _∷_, _++_, append-assoc}
+use mathlib.Core.List.{List, [], _∷_, _++_, append-assoc, append-nil}
 use Prim.Native.Nat.{ℕ, zero, suc}
 use lib.ListN.{length}
 use lib.IntN.{ℤ, pos, negsuc, negℤ, _+ℤ_}
@@ -52,10 +52,6 @@ carry-past before a (b ∷ others) after =
 -- The first of m + 1 points becomes the last: nothing changes in the plane (m = 2), the sign turns in space (m = 3).
 pub cycle : (a : Point) (others : List Point) → bracket (a ∷ others) ≡ flips (length others) (bracket (others ++ (a ∷ [])))
 cycle a others = ap (λ (xs : List Point). bracket (a ∷ xs)) (sym (append-nil others)) ∙ carry-past [] a others []
-  where
-    append-nil : (xs : List Point) → xs ++ [] ≡ xs
-    append-nil [] = refl
-    append-nil (x ∷ xs) = ap (λ (l : List Point). x ∷ l) (append-nil xs)
 
 -- Any two points trade places: the sign turns.
 pub points-trade : (before : List Point) (a : Point) (between : List Point) (b : Point) (after : List Point) →

@@ -1,8 +1,8 @@
 -- `predicate::determinant::turn_at` meets its contract: no step overflows, and the result is the turn.
 -- Assumes nothing.
 use mir.Syntax.{w64}
-use Rattle.algebra.proofs.Machine.{in-range, held, difference, product}
-use Rattle.predicate.proofs.Readings.{gap, stored-gap}
+use Rattle.algebra.proofs.Machine.{in-range, held, product}
+use Rattle.predicate.proofs.Readings.{gap, stored-gap, turn-read}
 use Rattle.predicate.proofs.determinant.turn_at.Statement.{statement}
 use Rattle.predicate.proofs.determinant.turn_at.Tie as tie
 
@@ -39,16 +39,12 @@ mul-result-2 c =
 sub-result-5 : tie.Need-sub-result-5
 sub-result-5 c =
     let p = c .before .before .before .before .before .before .before .before .before .before .before .before .before .before .before .before .pre in
-    let left = held w64 (product (stored-gap (p .0) (p .2) 0) (stored-gap (p .1) (p .2) 1)) tt in
-    let right = held w64 (product (stored-gap (p .0) (p .2) 1) (stored-gap (p .1) (p .2) 0)) tt in
-    in-range (difference left right) tt
+    in-range (turn-read (p .0) (p .1) (p .2)) tt
 
 returns : tie.Need-returns
 returns c =
     let p = c .before .before .before .before .before .before .before .before .before .before .before .before .before .before .before .before .pre in
-    let left = held w64 (product (stored-gap (p .0) (p .2) 0) (stored-gap (p .1) (p .2) 1)) tt in
-    let right = held w64 (product (stored-gap (p .0) (p .2) 1) (stored-gap (p .1) (p .2) 0)) tt in
-    held w64 (difference left right) tt .is
+    held w64 (turn-read (p .0) (p .1) (p .2)) tt .is
 
 pub turn-at-spec : {M : Type 1} → statement M
 turn-at-spec = tie.close (tie.spec sub-result sub-result-2 mul-result sub-result-3 sub-result-4 mul-result-2 sub-result-5 returns)
