@@ -1,5 +1,5 @@
 -- The order of ℤ as that of an ordered ring: the kit's `a ≤ℤ b` and `a <ℤ b` as signs of the difference b − a, signs of sums and
--- products, squares, a positive factor taken out, and no divisors of zero.
+-- products, squares, a positive factor taken out, no divisors of zero, and two numbers compared.
 --
 -- Use them to prove an order by its difference: `le-of-sub` and `lt-of-sub` turn the goal into one about the sign of b − a,
 -- `sub-nonneg` and `sub-pos` turn the hypotheses into such, and the laws `0≤-..` and `0<-..` combine signs. A longer
@@ -11,13 +11,14 @@
 --   scaled-difference h g = 0≤-mul h (sub-nonneg g)
 use mathlib.Core.Path.{_≡_, refl, sym, _∙_, ap, subst}
 use mathlib.Core.Bool.{Bool, true, false, not, cond}
+use mathlib.Core.Logic.{_⊎_, inl, inr}
 use Prim.Native.Nat.{ℕ, zero, suc, _+_, _*_, _-_, _≤_, _<_}
 use native.Mathlib.Omega.{arith}
 use native.Mathlib.Nat.{not-suc-le-zero, mul-le-mul}
 use lib.Dec.{T, ltb, leb→le, le→leb, ltb→lt, lt→ltb, nltb→le}
 use lib.Arith.{le→nltb}
 use lib.IntN.{ℤ, pos, negsuc, negℤ, subℕ, _+ℤ_, _-ℤ_, _*ℤ_, +ℤ-idl, +ℤ-comm, -ℤ-+ℤ-cancel}
-use lib.Signed.{_≤ℤ_, _<ℤ_, leZ, ltZ, nonNeg, <ℤ-irrefl}
+use lib.Signed.{_≤ℤ_, _<ℤ_, leZ, ltZ, nonNeg, ltZ-yes, ltZ-no, <ℤ-≤ℤ-trans, <ℤ-irrefl, clashℤ}
 use Rattle.algebra.proofs.Ring.{*ℤ-neg}
 
 -- ---- the difference of two natural numbers, and of two whole numbers
@@ -218,3 +219,34 @@ zero-of-mul a b h e = go (three-way b)
     go (none z) = z
     go (plus p) = absurd (<ℤ-irrefl (subst (λ (z : ℤ). pos 0 <ℤ z) e (0<-mul h p)))
     go (minus p) = absurd (<ℤ-irrefl (subst (λ (z : ℤ). pos 0 <ℤ z) (ap (λ (z : ℤ). a *ℤ z) (+ℤ-idl (negℤ b)) ∙ *ℤ-neg a b ∙ ap negℤ e) (0<-mul h (sub-pos p))))
+
+-- ---- two numbers compared
+
+-- the first is below the second, or not
+pub lt-or-ge : (a b : ℤ) → (a <ℤ b) ⊎ (b ≤ℤ a)
+lt-or-ge a b = by-test (ltZ a b) refl
+  where
+    by-test : (t : Bool) → ltZ a b ≡ t → (a <ℤ b) ⊎ (b ≤ℤ a)
+    by-test true e = inl (ltZ-yes (subst T (sym e) tt))
+    by-test false e = inr (ltZ-no (subst (λ (t : Bool). T (not t)) (sym e) tt))
+
+-- neither is below the other: equal
+pub le-antisym : {a b : ℤ} → a ≤ℤ b → b ≤ℤ a → a ≡ b
+le-antisym {a} {b} h g = go (three-way (b -ℤ a))
+  where
+    go : ThreeWay (b -ℤ a) → a ≡ b
+    go (minus p) = clashℤ p (sub-nonneg h)
+    go (none z) = eq-of-sub a b z
+    go (plus p) = clashℤ (lt-of-sub p) g
+
+-- below, so not above
+pub le-of-lt : {a b : ℤ} → a <ℤ b → a ≤ℤ b
+le-of-lt h = le-of-sub (weak (sub-pos h))
+
+-- what is not above b is below what b is below
+pub ≤ℤ-<ℤ-trans : {a b c : ℤ} → a ≤ℤ b → b <ℤ c → a <ℤ c
+≤ℤ-<ℤ-trans {a} {c} h g = go (lt-or-ge a c)
+  where
+    go : (a <ℤ c) ⊎ (c ≤ℤ a) → a <ℤ c
+    go (inl p) = p
+    go (inr p) = clashℤ (<ℤ-≤ℤ-trans g p) h

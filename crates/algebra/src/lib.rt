@@ -1,7 +1,7 @@
 // Laws of whole numbers, for the proofs of other crates. The crate has no function: all it holds is in proofs/.
 //
 //   Ring         ring laws that the kit lacks: distributivity, negated products, another order of sums and products
-//   Order        order laws: signs of differences, sums, products and squares; a positive factor taken out
+//   Order        order laws: signs of differences, sums, products and squares; a positive factor taken out; comparing
 //   Expression   polynomial expressions as data, and their values
 //   Polynomial   the normal form of an expression, and the proof that it has the same value
 //   Solver       identities by computation: `solve`, `ring`

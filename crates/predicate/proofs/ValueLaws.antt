@@ -12,7 +12,7 @@ use Rattle.predicate.specs.Told.{toldCheck, toldRefusal}
 use Rattle.predicate.specs.declared.answer.Refusal.{Refusal}
 use Rattle.predicate.specs.declared.grid.Checked.{Checked}
 use Rattle.predicate.specs.declared.grid.Checked.the-variants.{Fine, Refused}
-use Rattle.predicate.proofs.Exactly.{table}
+use Rattle.predicate.proofs.Exactly.{value-table}
 
 -- What follows two checks taken together follows them one by one.
 then-assoc : {A : Type 0} (x y : Check) (a : Answer A) → ((x then y) then a) ≡ (x then (y then a))
@@ -35,4 +35,4 @@ module _ (n : ℕ) (l : List ℤ) (found : Checked) (e : toldCheck found ≡ (ri
 
   -- Only a list that is ready is served.
   pub checks-ready : found ≡ Fine → Ready (suc n * n) l
-  checks-ready f = table n l .none .0 (ap numberOf (sym (checks-serve f)))
+  checks-ready f = value-table n l .none .0 (ap numberOf (sym (checks-serve f)))

@@ -5,7 +5,7 @@ use mathlib.Core.List.{[], _∷_}
 use mathlib.Core.Logic.{_⊎_, inl, inr, _↔_}
 use Prim.Native.Nat.{ℕ, zero, suc, _<_}
 use native.Mathlib.Omega.{arith}
-use lib.IntN.{ℤ, pos, negℤ, _-ℤ_, _*ℤ_, +ℤ-invr}
+use lib.IntN.{pos, negℤ, _-ℤ_, _*ℤ_, +ℤ-invr}
 use Rattle.algebra.proofs.Expression.{_⊟_, neg}
 use Rattle.algebra.proofs.Solver.{_≗_, solve}
 use Rattle.shape.specs.Points.{Point, coord}

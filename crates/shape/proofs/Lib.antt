@@ -8,4 +8,5 @@ pub mod SignLaws
 pub mod Dependence
 pub mod Witnesses
 pub mod FlatLaws
+pub mod Lines
 pub mod Bench

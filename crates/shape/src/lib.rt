@@ -16,5 +16,6 @@
 //   Witnesses    its three instances: a point in a triangle, two segments that cross, a segment through a triangle
 //   SignLaws     swapping, cycling, equal points, moving, for plane and space at once
 //   FlatLaws     flat triangles told by turns
+//   Lines        flat in document 01's words: one corner between the others; in any order, wherever it is moved
 //   Symbols      points as symbols for the ring solver
 //   Bench        every row of the table holds
