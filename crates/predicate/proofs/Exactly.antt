@@ -1,5 +1,6 @@
 -- Each reason is given exactly in the case that document 01's table states, with the side and the place stated there. Said once
--- for the plane (n = 2) and space (n = 3), and for the value and the sign calls, whatever they serve. Assumes nothing.
+-- for the plane (n = 2) and space (n = 3), and for the value and the sign calls, whatever they serve. The table leaves nothing
+-- open: two answers of which it holds have the same number, side and place (`table-fixes`). Assumes nothing.
 use mathlib.Core.Path.{_≡_, refl, sym, ap, _∙_, subst}
 use mathlib.Core.List.{List}
 use mathlib.Core.Logic.{_↔_}
@@ -9,16 +10,12 @@ use lib.IntN.{ℤ}
 use lib.ListN.{length}
 use Rattle.shape.specs.Points.{pointsAt}
 use Rattle.shape.specs.Signs.{bracket, sign}
-use Rattle.predicate.specs.Answers.{Answer, served, refused, Check, _then_, withServed, numberOf, sideOf, placeOf}
-use Rattle.predicate.specs.Grid.{lowestOff, Ready}
+use Rattle.predicate.specs.Answers.{Answer, served, Check, _then_, numberOf, sideOf, placeOf}
+use Rattle.predicate.specs.Grid.{Ready}
 use Rattle.predicate.specs.Rules.{rightLength, allOnGrid, valueRule, signRule}
-use Rattle.predicate.proofs.GridLaws.{Lowest}
+use Rattle.predicate.proofs.AnswerLaws.{served-later}
+use Rattle.predicate.proofs.GridLaws.{SomeOff, Lowest, lowest-some, lowest-one}
 use Rattle.predicate.proofs.CheckLaws.{LengthCase, right, wrong, length-case, GridCase, all, not-all, grid-case}
-
--- The checks before it do not touch what becomes of the served value.
-served-later : {A B : Type 0} (f : A → B) (c : Check) (a : Answer A) → withServed f (c then a) ≡ (c then withServed f a)
-served-later f (served u) a = refl
-served-later f (refused n s p) a = refl
 
 module _ (n : ℕ) (l : List ℤ) where
   abbrev want : ℕ
@@ -28,14 +25,15 @@ module _ (n : ℕ) (l : List ℤ) where
   pub record Table {A : Type 0} (a : Answer A) : Type 0 where
     pub three : (numberOf a ≡ 3) ↔ (length l ≡ want → ⊥)
     pub three-place : numberOf a ≡ 3 → placeOf a ≡ length l
-    pub one : (numberOf a ≡ 1) ↔ ((length l ≡ want) × Lowest l (placeOf a))
+    pub one : (numberOf a ≡ 1) ↔ ((length l ≡ want) × SomeOff l)
+    pub one-place : numberOf a ≡ 1 → Lowest l (placeOf a)
     pub none : (numberOf a ≡ 0) ↔ Ready want l
     pub none-place : numberOf a ≡ 0 → placeOf a ≡ 0
     pub side : sideOf a ≡ 0
 
-  -- No position of a ready list is off the grid.
-  not-both : (p : ℕ) → Ready want l → Lowest l p → ⊥
-  not-both p r h = omega (arith, r .each p, h .off)
+  -- No number of a ready list is off the grid.
+  not-both : Ready want l → SomeOff l → ⊥
+  not-both r h = omega (arith, r .each (h .position), h .off)
 
   -- The two checks in their order, and then whatever is served.
   module _ {A : Type 0} (value : A) where
@@ -48,6 +46,7 @@ module _ (n : ℕ) (l : List ℤ) where
           three = (λ f. h, λ f. refl);
           three-place = λ f. refl;
           one = (λ f. absurd (omega (arith, f)), λ f. absurd (h (f .0)));
+          one-place = λ f. absurd (omega (arith, f));
           none = (λ f. absurd (omega (arith, f)), λ r. absurd (h (r .long)));
           none-place = λ f. absurd (omega (arith, f));
           side = refl;
@@ -56,8 +55,9 @@ module _ (n : ℕ) (l : List ℤ) where
         (record {
           three = (λ f. absurd (omega (arith, f)), λ f. absurd (f h));
           three-place = λ f. absurd (omega (arith, f));
-          one = (λ f. (h, low), λ f. refl);
-          none = (λ f. absurd (omega (arith, f)), λ r. absurd (not-both (lowestOff l) r low));
+          one = (λ f. (h, lowest-some low), λ f. refl);
+          one-place = λ f. low;
+          none = (λ f. absurd (omega (arith, f)), λ r. absurd (not-both r (lowest-some low)));
           none-place = λ f. absurd (omega (arith, f));
           side = refl;
         })
@@ -65,7 +65,8 @@ module _ (n : ℕ) (l : List ℤ) where
         (record {
           three = (λ f. absurd (omega (arith, f)), λ f. absurd (f h));
           three-place = λ f. absurd (omega (arith, f));
-          one = (λ f. absurd (omega (arith, f)), λ f. absurd (not-both 0 (record { long = h; each = on }) (f .1)));
+          one = (λ f. absurd (omega (arith, f)), λ f. absurd (not-both (record { long = h; each = on }) (f .1)));
+          one-place = λ f. absurd (omega (arith, f));
           none = (λ f. record { long = h; each = on }, λ f. refl);
           none-place = λ f. refl;
           side = refl;
@@ -83,3 +84,27 @@ module _ (n : ℕ) (l : List ℤ) where
       subst Table
       (sym (served-later sign (rightLength 0 want l) (allOnGrid 0 l then served z) ∙ ap (λ (a : Answer ℤ). rightLength 0 want l then a) (served-later sign (allOnGrid 0 l) (served z))))
       (table (sign z))
+
+  -- The table fixes number, side and place.
+  pub table-fixes : {A B : Type 0} (a : Answer A) (b : Answer B) → Table a → Table b →
+      (numberOf a ≡ numberOf b) × (sideOf a ≡ sideOf b) × (placeOf a ≡ placeOf b)
+  table-fixes a b t u = fixed (length-case 0 want l) (grid-case 0 l)
+    where
+      -- both give the number m, and then the same place
+      both : (m : ℕ) → numberOf a ≡ m → numberOf b ≡ m → placeOf a ≡ placeOf b →
+          (numberOf a ≡ numberOf b) × (sideOf a ≡ sideOf b) × (placeOf a ≡ placeOf b)
+      both m p q place = (p ∙ sym q, t .side ∙ sym (u .side), place)
+
+      fixed : LengthCase 0 want l → GridCase 0 l → (numberOf a ≡ numberOf b) × (sideOf a ≡ sideOf b) × (placeOf a ≡ placeOf b)
+      fixed (wrong h e) g =
+          let p = t .three .1 h in
+          let q = u .three .1 h in
+          both 3 p q (t .three-place p ∙ sym (u .three-place q))
+      fixed (right h e) (not-all low g) =
+          let p = t .one .1 (h, lowest-some low) in
+          let q = u .one .1 (h, lowest-some low) in
+          both 1 p q (lowest-one (t .one-place p) (u .one-place q))
+      fixed (right h e) (all on g) =
+          let p = t .none .1 (record { long = h; each = on }) in
+          let q = u .none .1 (record { long = h; each = on }) in
+          both 0 p q (t .none-place p ∙ sym (u .none-place q))

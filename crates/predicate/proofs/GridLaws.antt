@@ -62,11 +62,29 @@ all-on (z ∷ l) h k = first (onGrid z) refl (all-on l) k h
     first true e rest (suc k) g = rest (omega arith) k
     first false e rest k g = absurd (omega arith)
 
+-- Some number of the list is off the grid.
+pub record SomeOff (l : List ℤ) : Type 0 where
+  pub position : ℕ
+  pub inside : position < length l
+  pub off : limit < natAbs (getD l position (pos 0))
+
 -- Position p is the lowest of the list whose number is off the grid.
 pub record Lowest (l : List ℤ) (p : ℕ) : Type 0 where
   pub inside : p < length l
   pub off : limit < natAbs (getD l p (pos 0))
   pub before : (k : ℕ) → k < p → natAbs (getD l k (pos 0)) ≤ limit
+
+pub lowest-some : {l : List ℤ} {p : ℕ} → Lowest l p → SomeOff l
+lowest-some {p} h = record { position = p; inside = h .inside; off = h .off }
+
+-- There is one such position only.
+pub lowest-one : {l : List ℤ} {p q : ℕ} → Lowest l p → Lowest l q → p ≡ q
+lowest-one {p} {q} h g = by-tests (ltb p q) refl (ltb q p) refl
+  where
+    by-tests : (s : Bool) → ltb p q ≡ s → (t : Bool) → ltb q p ≡ t → p ≡ q
+    by-tests true e t f = absurd (omega (arith, h .off, g .before p (ltb-true p q e)))
+    by-tests false e true f = absurd (omega (arith, g .off, h .before q (ltb-true q p f)))
+    by-tests false e false f = omega (arith, ltb-false p q e, ltb-false q p f)
 
 -- The place that the rule computes is that position, where there is one.
 pub lowest : (l : List ℤ) → lowestOff l < length l → Lowest l (lowestOff l)

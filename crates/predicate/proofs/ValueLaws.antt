@@ -1,23 +1,19 @@
 -- What a value call answers, from what its checks found. One law for the plane and space. Assumes nothing.
-use mathlib.Core.Path.{_≡_, refl, sym, ap, _∙_}
+use mathlib.Core.Path.{_≡_, sym, ap, _∙_}
 use mathlib.Core.List.{List}
 use Prim.Native.Nat.{ℕ, suc, _*_}
 use lib.IntN.{ℤ}
 use Rattle.shape.specs.Points.{pointsAt}
 use Rattle.shape.specs.Signs.{bracket}
-use Rattle.predicate.specs.Answers.{Answer, served, refused, Check, fine, _then_, numberOf}
+use Rattle.predicate.specs.Answers.{Answer, served, Check, fine, _then_, numberOf}
 use Rattle.predicate.specs.Grid.{Ready}
 use Rattle.predicate.specs.Rules.{rightLength, allOnGrid, valueRule}
 use Rattle.predicate.specs.Told.{toldCheck, toldRefusal}
 use Rattle.predicate.specs.declared.answer.Refusal.{Refusal}
 use Rattle.predicate.specs.declared.grid.Checked.{Checked}
 use Rattle.predicate.specs.declared.grid.Checked.the-variants.{Fine, Refused}
+use Rattle.predicate.proofs.AnswerLaws.{then-assoc}
 use Rattle.predicate.proofs.Exactly.{value-table}
-
--- What follows two checks taken together follows them one by one.
-then-assoc : {A : Type 0} (x y : Check) (a : Answer A) → ((x then y) then a) ≡ (x then (y then a))
-then-assoc (served u) y a = refl
-then-assoc (refused n s p) y a = refl
 
 module _ (n : ℕ) (l : List ℤ) (found : Checked) (e : toldCheck found ≡ (rightLength 0 (suc n * n) l then allOnGrid 0 l)) where
   abbrev value : Answer ℤ

@@ -10,10 +10,11 @@ use native.Mathlib.Nat.{eq-or-lt-of-le}
 use lib.ListN.{length}
 use lib.IntN.{ℤ, pos, negsuc, negℤ, _+ℤ_, _-ℤ_, _*ℤ_}
 use lib.Signed.{_≤ℤ_, _<ℤ_}
-use Rattle.algebra.proofs.Order.{sub-nonneg, sub-pos, weak, 0≤-pos, 0<-pos, lt-or-ge, le-antisym, le-of-lt, ≤ℤ-<ℤ-trans}
+use Rattle.algebra.proofs.Ring.{+ℤ-cancell}
+use Rattle.algebra.proofs.Order.{sub-nonneg, sub-pos, weak, 0≤-pos, 0<-pos, 0<-addl, lt-or-ge, le-antisym, le-of-lt, ≤ℤ-<ℤ-trans}
 use Rattle.algebra.proofs.Expression.{Ex, var, lit, _⊞_, _⊟_, _⊠_, neg}
 use Rattle.algebra.proofs.Solver.{_≗_, solve}
-use Rattle.algebra.proofs.Certificate.{Rel, _≺_, _≐_, hyp, eqn, num, _⊕_, prove<, prove≡}
+use Rattle.algebra.proofs.Certificate.{Rel, _≺_, _≐_, hyp, eqn, num, _⊕_, prove≡}
 use Rattle.shape.specs.Points.{Point, Shape, coord, moved, movedAll}
 use Rattle.shape.specs.Signs.{turn, turnIn}
 use Rattle.shape.specs.Sharing.{total, weigh, Share}
@@ -55,12 +56,8 @@ flat-moved n d (a ∷ b ∷ []) = (there, back)
     there : Equal n a b → Equal n (moved d a) (moved d b)
     there h i l = coord-moved i d a ∙ ap (λ (z : ℤ). coord i d +ℤ z) (h i l) ∙ sym (coord-moved i d b)
 
-    cancel : (d x y : ℤ) → d +ℤ x ≡ d +ℤ y → x ≡ y
-    cancel d x y =
-        prove≡ (d ∷ x ∷ y ∷ []) ((var 0 ⊞ var 1 ≐ var 0 ⊞ var 2) ∷ []) (var 1) (var 2) (num 1) (hyp 0) tt tt tt refl
-
     back : Equal n (moved d a) (moved d b) → Equal n a b
-    back h i l = cancel (coord i d) (coord i a) (coord i b) (sym (coord-moved i d a) ∙ h i l ∙ coord-moved i d b)
+    back h i l = +ℤ-cancell (coord i a) (coord i b) (coord i d) (sym (coord-moved i d a) ∙ h i l ∙ coord-moved i d b)
 flat-moved n d (a ∷ b ∷ c ∷ []) =
     (λ h i j li lj. turnIn-moved i j d a b c ∙ h i j li lj, λ h i j li lj. sym (turnIn-moved i j d a b c) ∙ h i j li lj)
 flat-moved n d (a ∷ b ∷ c ∷ e ∷ more) = (λ h. h, λ h. h)
@@ -108,7 +105,7 @@ rising p q r h k l pq qr pr =
     meet ((coord k r -ℤ coord k p) ∷ []) ((coord k r -ℤ coord k q) ∷ (coord k q -ℤ coord k p) ∷ []) refl refl
     (weak (sub-pos pr), tt) (sub-nonneg qr, (sub-nonneg pq, tt))
     (solve 3 (λ p q r. (r ⊟ p) ⊞ O ≗ (r ⊟ q) ⊞ ((q ⊟ p) ⊞ O)) (tt, refl) (coord k p) (coord k q) (coord k r))
-    (prove< (coord k p ∷ coord k r ∷ []) ((var 0 ≺ var 1) ∷ []) O ((var 1 ⊟ var 0) ⊞ O) (num 1) (hyp 0) tt tt refl pr)
+    (0<-addl (sub-pos pr) (0≤-pos 0))
     (λ i li.
     prove≡ (values (seenIn k i p ∷ seenIn k i q ∷ seenIn k i r ∷ [])) ((turnE 0 1 2 ≐ O) ∷ [])
     ((point 2 0 ⊟ point 0 0) ⊠ point 1 1 ⊞ O)

@@ -10,7 +10,8 @@ use Rattle.shape.specs.Signs.{turnIn}
 abbrev pub Equal : ℕ → Point → Point → Type 0
 Equal n a b = (i : ℕ) → i < n → coord i a ≡ coord i b
 
--- Three points of n coordinates lie on one line: seen in any two of the coordinates they turn neither left nor right.
+-- Three points of n coordinates lie on one line: seen in any two of the coordinates they turn neither left nor right. (So one
+-- of them is a point of the segment between the other two: proofs/Lines.antt.)
 abbrev pub OnLine : ℕ → Point → Point → Point → Type 0
 OnLine n a b c = (i j : ℕ) → i < n → j < n → turnIn i j a b c ≡ pos 0
 
