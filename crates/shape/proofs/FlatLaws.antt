@@ -1,16 +1,20 @@
 -- Flat triangles told by determinants: in the plane exactly those whose turn is zero, in space those whose turns seen in y
 -- and z, z and x, x and y are all zero. Assumes nothing.
-use mathlib.Core.Path.{_≡_, refl, _∙_, ap, subst}
+use mathlib.Core.Path.{_≡_, refl, sym, _∙_, ap, subst}
+use mathlib.Core.Bool.{Bool, true, false, cond}
 use mathlib.Core.List.{[], _∷_}
 use mathlib.Core.Logic.{_⊎_, inl, inr, _↔_}
 use Prim.Native.Nat.{ℕ, zero, suc, _<_}
 use native.Mathlib.Omega.{arith}
-use lib.IntN.{pos, negℤ, _-ℤ_, _*ℤ_, +ℤ-invr}
+use lib.IntN.{ℤ, pos, negsuc, negℤ, _-ℤ_, _*ℤ_, +ℤ-invr}
+use Rattle.algebra.proofs.Order.{eq-of-sub}
 use Rattle.algebra.proofs.Expression.{_⊟_, neg}
 use Rattle.algebra.proofs.Solver.{_≗_, solve}
-use Rattle.shape.specs.Points.{Point, coord}
+use Rattle.shape.specs.Points.{Point, Shape, coord}
 use Rattle.shape.specs.Signs.{turn, turnIn}
-use Rattle.shape.specs.Flat.{OnLine, Flat}
+use Rattle.shape.specs.Flat.{OnLine, Flat, isZero, allBelow, isFlat}
+use Rattle.shape.specs.Verdicts.{Says}
+use Rattle.shape.proofs.VerdictLaws.{says-yes, says-no, says-same, says-fixed}
 
 -- A coordinate against itself shows no turn; two coordinates that trade places turn the sign.
 pub turnIn-same : (i : ℕ) (a b c : Point) → turnIn i i a b c ≡ pos 0
@@ -68,3 +72,45 @@ flat-in-space a b c =
     each e (suc zero) (suc (suc zero)) l m = e .0
     each e (suc (suc i)) (suc (suc zero)) l m = absurd (omega arith)
     each e i (suc (suc (suc j))) l m = absurd (omega arith)
+
+-- ---- the test that computes
+zero-says : (z : ℤ) → Says (isZero z) (z ≡ pos 0)
+zero-says (pos zero) = says-yes refl
+zero-says (pos (suc n)) = says-no (λ e. let y : _≡_ {A = ℕ} (suc n) 0 = cc in omega arith)
+zero-says (negsuc n) = says-no (λ e. let y : _≡_ {A = ℕ} 0 1 = cc in omega arith)
+
+-- A test of each i below n that says whether F i holds: together they say whether it holds of all.
+below-says : (n : ℕ) (F : ℕ → Type 0) (test : ℕ → Bool) → ((i : ℕ) → Says (test i) (F i)) → Says (allBelow n test) ((i : ℕ) → i < n → F i)
+below-says zero F test says = says-yes (λ i l. absurd (omega arith))
+below-says (suc n) F test says = both (test n) (says n) (allBelow n test) (below-says n F test says)
+  where
+    last-or-before : F n → ((i : ℕ) → i < n → F i) → (i : ℕ) → i < suc n → F i
+    last-or-before last before i l = by-order (compared i n)
+      where
+        by-order : (i < n) ⊎ ((i ≡ n) ⊎ (n < i)) → F i
+        by-order (inl h) = before i h
+        by-order (inr (inl e)) = subst F (sym e) last
+        by-order (inr (inr h)) = absurd (omega arith)
+
+    both : (v : Bool) → Says v (F n) → (w : Bool) → Says w ((i : ℕ) → i < n → F i) → Says (cond v w false) ((i : ℕ) → i < suc n → F i)
+    both true s true t = says-yes (last-or-before (s .yes refl) (t .yes refl))
+    both true s false t = says-no (λ all. t .no refl (λ i l. all i (omega arith)))
+    both false s w t = says-no (λ all. s .no refl (all n (omega arith)))
+
+-- The test tells the flat shapes.
+pub is-flat : (n : ℕ) (P : Shape) → Says (isFlat n P) (Flat n P)
+is-flat n [] = says-no (λ h. h)
+is-flat n (a ∷ []) = says-no (λ h. h)
+is-flat n (a ∷ b ∷ []) =
+    below-says n (λ i. coord i a ≡ coord i b) (λ i. isZero (coord i b -ℤ coord i a))
+    (λ i. says-same (eq-of-sub (coord i a) (coord i b), λ e. ap (λ (z : ℤ). z -ℤ coord i a) (sym e) ∙ +ℤ-invr (coord i a)) (zero-says (coord i b -ℤ coord i a)))
+is-flat n (a ∷ b ∷ c ∷ []) =
+    says-same ((λ h i j l m. h i l j m), (λ h i l j m. h i j l m))
+    (below-says n (λ i. (j : ℕ) → j < n → turnIn i j a b c ≡ pos 0) (λ i. allBelow n (λ j. isZero (turnIn i j a b c)))
+    (λ i. below-says n (λ j. turnIn i j a b c ≡ pos 0) (λ j. isZero (turnIn i j a b c)) (λ j. zero-says (turnIn i j a b c))))
+is-flat n (a ∷ b ∷ c ∷ d ∷ more) = says-no (λ h. h)
+
+-- In the plane it is one sign.
+pub is-flat-in-plane : (a b c : Point) → isFlat 2 (a ∷ b ∷ c ∷ []) ≡ isZero (turn a b c)
+is-flat-in-plane a b c =
+    says-fixed (is-flat 2 (a ∷ b ∷ c ∷ [])) (says-same (flat-in-plane a b c .1, flat-in-plane a b c .0) (zero-says (turn a b c)))

@@ -7,6 +7,11 @@ pub mod Symbols
 pub mod SignLaws
 pub mod Dependence
 pub mod Witnesses
+pub mod VerdictLaws
 pub mod FlatLaws
 pub mod Lines
+pub mod Edges
+pub mod TriangleLeaves
+pub mod SegmentLeaves
+pub mod PlaneTest
 pub mod Bench

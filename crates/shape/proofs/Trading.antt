@@ -28,6 +28,15 @@ abbrev pub Among : Shape → Shape → Type 0
 Among [] R = Unit {0}
 Among (a ∷ P) R = In a R × Among P R
 
+-- A shape's own corners are among them.
+among-more : (b : Point) (P R : Shape) → Among P R → Among P (b ∷ R)
+among-more b [] R m = tt
+among-more b (a ∷ P) R m = (inr (m .0), among-more b P R (m .1))
+
+pub among-itself : (P : Shape) → Among P P
+among-itself [] = tt
+among-itself (a ∷ P) = (inl refl, among-more a P P (among-itself P))
+
 -- Weights for the corners of R that add up to s and give every function f the sum that g says.
 record WeightsFor (R : Shape) (s : ℕ) (g : (Point → ℤ) → ℤ) : Type 0 where
   ws : List ℕ

@@ -1,24 +1,46 @@
 -- The bench rows that are proved (document 01, "Bench pieces", rows marked P), as one table: a row is its input and its
 -- result. proofs/Bench.antt has the one theorem that every row holds of the definitions.
 use mathlib.Core.Path.{_≡_}
+use mathlib.Core.Bool.{Bool, true, false}
 use mathlib.Core.List.{List, [], _∷_}
 use Prim.Native.Nat.{ℕ, suc}
 use lib.IntN.{ℤ, pos, negsuc, negℤ}
 use Rattle.shape.specs.Points.{pointsAt}
 use Rattle.shape.specs.Signs.{bracket, sign}
+use Rattle.shape.specs.Sharing.{Share}
+use Rattle.shape.specs.Verdicts.{Says}
 
 pub data Row : Type 0 where
   -- n + 1 points of n coordinates as one list of numbers; their determinant; its sign
   determinant-row : (n : ℕ) (numbers : List ℤ) (value its-sign : ℤ) → Row
+  -- two shapes in n coordinates, of k and of m corners, each as one list of numbers; whether they have a point in common
+  verdict-row : (n k m : ℕ) (first second : List ℤ) (verdict : Bool) → Row
 
 -- What it is for a row to hold.
 abbrev pub Holds : Row → Type 0
 Holds (determinant-row n numbers value its-sign) =
     (bracket (pointsAt n (suc n) 0 numbers) ≡ value) × (sign value ≡ its-sign)
+Holds (verdict-row n k m first second verdict) = Says verdict (Share n (pointsAt n k 0 first) (pointsAt n m 0 second))
 
 abbrev pub AllHold : List Row → Type 0
 AllHold [] = Unit {0}
 AllHold (r ∷ rs) = Holds r × AllHold rs
+
+-- P5 with z dropped: (0,0) (10,0) (0,10) and (1,1) (2,1) (1,2) meet, the second inside the first.
+abbrev pub row-P5-flat : Row
+row-P5-flat =
+    verdict-row 2 3 3
+    (pos 0 ∷ pos 0 ∷ pos 10 ∷ pos 0 ∷ pos 0 ∷ pos 10 ∷ [])
+    (pos 1 ∷ pos 1 ∷ pos 2 ∷ pos 1 ∷ pos 1 ∷ pos 2 ∷ [])
+    true
+
+-- P6 with z dropped: (0,0) (4,0) (0,4) and (3,3) (5,3) (3,5) do not meet.
+abbrev pub row-P6-flat : Row
+row-P6-flat =
+    verdict-row 2 3 3
+    (pos 0 ∷ pos 0 ∷ pos 4 ∷ pos 0 ∷ pos 0 ∷ pos 4 ∷ [])
+    (pos 3 ∷ pos 3 ∷ pos 5 ∷ pos 3 ∷ pos 3 ∷ pos 5 ∷ [])
+    false
 
 -- P10: the turn of (0,0) (4,0) (0,4) is 16, to the left.
 abbrev pub row-P10 : Row
@@ -38,4 +60,4 @@ row-P11 =
 
 -- The table.
 abbrev pub rows : List Row
-rows = row-P10 ∷ row-P11 ∷ []
+rows = row-P5-flat ∷ row-P6-flat ∷ row-P10 ∷ row-P11 ∷ []

@@ -3,4 +3,6 @@ pub mod Points
 pub mod Signs
 pub mod Sharing
 pub mod Flat
+pub mod Verdicts
+pub mod PlaneTest
 pub mod Bench

@@ -4,7 +4,9 @@
 //   Points       points, shapes, how a list of numbers is read as points, moving by a vector
 //   Signs        the turn, the side, the bracket that names both, the sign of a number
 //   Sharing      a point of a shape by whole weights, and having a point in common
-//   Flat         flat triangles and segments
+//   Flat         flat triangles and segments, and the test that tells them
+//   Verdicts     what a verdict says
+//   PlaneTest    the tests in the plane as decisions by signs
 //   Bench        the table of proved bench rows
 //
 // proofs/ holds the laws, each proved once over the number of coordinates and, where it makes sense, of corners:
@@ -15,7 +17,11 @@
 //   Dependence   meeting by a dependence of n + 2 points in n coordinates: what proves every "yes"
 //   Witnesses    its three instances: a point in a triangle, two segments that cross, a segment through a triangle
 //   SignLaws     swapping, cycling, equal points, moving, for plane and space at once
-//   FlatLaws     flat triangles told by turns
+//   VerdictLaws  a verdict by signs; two verdicts on one claim are the same
+//   FlatLaws     flat triangles told by turns, and by the test
 //   Lines        flat in document 01's words: one corner between the others; in any order, wherever it is moved
+//   Edges        on which side of a line a point lies; apart by a line
+//   TriangleLeaves, SegmentLeaves   each answer of the tests in the plane with its certificate
+//   PlaneTest    each test in the plane says yes exactly when the two shapes have a point in common
 //   Symbols      points as symbols for the ring solver
 //   Bench        every row of the table holds

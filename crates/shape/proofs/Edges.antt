@@ -1,0 +1,99 @@
+-- Which side of a line a point lies on, and the certificate behind every "no" of the tests in the plane: one shape lies
+-- strictly right of a line that the other is nowhere strictly right of. Assumes nothing.
+use mathlib.Core.Path.{refl}
+use mathlib.Core.List.{List, [], _∷_}
+use native.Mathlib.Omega.{arith}
+use lib.IntN.{ℤ, pos, _-ℤ_, _*ℤ_}
+use lib.Signed.{_≤ℤ_, _<ℤ_}
+use Prim.Native.Nat.{ℕ}
+use Rattle.algebra.proofs.Expression.{Ex, _⊞_, _⊟_, _⊠_}
+use Rattle.algebra.proofs.Order.{weak}
+use Rattle.algebra.proofs.Certificate.{Rel, _≦_, _≺_, hyp, num, prove≤, prove<}
+use Rattle.shape.specs.Points.{Point, Shape, coord}
+use Rattle.shape.specs.Signs.{turn}
+use Rattle.shape.specs.Sharing.{Share}
+use Rattle.shape.proofs.Symbols.{values, O, point, turnE}
+use Rattle.shape.proofs.Weights.{Every}
+use Rattle.shape.proofs.Apart.{functional, apart}
+
+-- c lies strictly right of a → b; it does not; it lies strictly left, so that a, b, c turn left; it does not.
+abbrev pub Right : Point → Point → Point → Type 0
+Right a b c = turn a b c <ℤ pos 0
+
+abbrev pub NotRight : Point → Point → Point → Type 0
+NotRight a b c = pos 0 ≤ℤ turn a b c
+
+abbrev pub Left : Point → Point → Point → Type 0
+Left a b c = pos 0 <ℤ turn a b c
+
+abbrev pub NotLeft : Point → Point → Point → Type 0
+NotLeft a b c = turn a b c ≤ℤ pos 0
+
+-- The same for certificates, of points by their place in the list of symbols.
+abbrev pub rightE : ℕ → ℕ → ℕ → Rel
+rightE a b c = turnE a b c ≺ O
+
+abbrev pub notRightE : ℕ → ℕ → ℕ → Rel
+notRightE a b c = O ≦ turnE a b c
+
+abbrev pub leftE : ℕ → ℕ → ℕ → Rel
+leftE a b c = O ≺ turnE a b c
+
+-- No corner of P lies strictly right of a → b, every corner of Q does: no common point.
+pub beside-line : (a b : Point) (P Q : Shape) → Every (NotRight a b) P → Every (Right a b) Q → Share 2 P Q → ⊥
+beside-line a b P Q near far = apart cs m (omega arith) (below P near) (above Q far)
+  where
+    cs : List ℤ
+    cs = (coord 1 b -ℤ coord 1 a) ∷ (coord 0 a -ℤ coord 0 b) ∷ []
+
+    m : ℤ
+    m = coord 1 a *ℤ coord 0 b -ℤ coord 0 a *ℤ coord 1 b
+
+    -- the functional at a point x, which is the opposite of the turn of a, b, x
+    opposite : Ex
+    opposite =
+        (point 1 1 ⊟ point 0 1) ⊠ point 2 0 ⊞ ((point 0 0 ⊟ point 1 0) ⊠ point 2 1 ⊞ O) ⊞ (point 0 1 ⊠ point 1 0 ⊟ point 0 0 ⊠ point 1 1)
+
+    below : (R : Shape) → Every (NotRight a b) R → Every (λ x. functional cs m x ≤ℤ pos 0) R
+    below [] h = tt
+    below (x ∷ R) h = (prove≤ (values (a ∷ b ∷ x ∷ [])) (notRightE 0 1 2 ∷ []) opposite O (num 1) (hyp 0) tt tt refl (h .0), below R (h .1))
+
+    above : (R : Shape) → Every (Right a b) R → Every (λ x. pos 0 <ℤ functional cs m x) R
+    above [] h = tt
+    above (x ∷ R) h = (prove< (values (a ∷ b ∷ x ∷ [])) (rightE 0 1 2 ∷ []) O opposite (num 1) (hyp 0) tt tt refl (h .0), above R (h .1))
+
+-- ---- a line has no corner of a shape strictly right of it where
+-- the shape is a segment on it, in either direction,
+module _ (a b : Point) where
+  abbrev ends : List ℤ
+  ends = values (a ∷ b ∷ [])
+
+  pub along : Every (NotRight a b) (a ∷ b ∷ [])
+  along =
+      (prove≤ ends [] O (turnE 0 1 0) (num 1) (num 0) tt tt refl, (prove≤ ends [] O (turnE 0 1 1) (num 1) (num 0) tt tt refl, tt))
+
+  pub against : Every (NotRight b a) (a ∷ b ∷ [])
+  against =
+      (prove≤ ends [] O (turnE 1 0 0) (num 1) (num 0) tt tt refl, (prove≤ ends [] O (turnE 1 0 1) (num 1) (num 0) tt tt refl, tt))
+
+-- and where it is an edge of a triangle that turns left. So what lies strictly right of one of its edges has no point in
+-- common with the triangle.
+module _ (a b c : Point) (left : Left a b c) where
+  abbrev corners : List ℤ
+  corners = values (a ∷ b ∷ c ∷ [])
+
+  -- the triangle turned
+  pub turned : Left b c a
+  turned = prove< corners (leftE 0 1 2 ∷ []) O (turnE 1 2 0) (num 1) (hyp 0) tt tt refl left
+
+  pub turned-twice : Left c a b
+  turned-twice = prove< corners (leftE 0 1 2 ∷ []) O (turnE 2 0 1) (num 1) (hyp 0) tt tt refl left
+
+  pub beside-first : (Q : Shape) → Every (Right a b) Q → Share 2 (a ∷ b ∷ c ∷ []) Q → ⊥
+  beside-first Q = beside-line a b (a ∷ b ∷ c ∷ []) Q (along a b .0, (along a b .1 .0, (weak left, tt)))
+
+  pub beside-second : (Q : Shape) → Every (Right b c) Q → Share 2 (a ∷ b ∷ c ∷ []) Q → ⊥
+  beside-second Q = beside-line b c (a ∷ b ∷ c ∷ []) Q (weak turned, along b c)
+
+  pub beside-third : (Q : Shape) → Every (Right c a) Q → Share 2 (a ∷ b ∷ c ∷ []) Q → ⊥
+  beside-third Q = beside-line c a (a ∷ b ∷ c ∷ []) Q (along c a .1 .0, (weak turned-twice, (along c a .0, tt)))
