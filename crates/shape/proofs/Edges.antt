@@ -39,6 +39,36 @@ notRightE a b c = O ≦ turnE a b c
 abbrev pub leftE : ℕ → ℕ → ℕ → Rel
 leftE a b c = O ≺ turnE a b c
 
+-- ---- the same three points in another order: turned by one, turned back by one, and mirrored
+module _ (a b c : Point) where
+  abbrev three : List ℤ
+  three = values (a ∷ b ∷ c ∷ [])
+
+  pub right-on : Right a b c → Right b c a
+  right-on = prove< three (rightE 0 1 2 ∷ []) (turnE 1 2 0) O (num 1) (hyp 0) tt tt refl
+
+  pub right-back : Right a b c → Right c a b
+  right-back = prove< three (rightE 0 1 2 ∷ []) (turnE 2 0 1) O (num 1) (hyp 0) tt tt refl
+
+  pub not-right-on : NotRight a b c → NotRight b c a
+  not-right-on = prove≤ three (notRightE 0 1 2 ∷ []) O (turnE 1 2 0) (num 1) (hyp 0) tt tt refl
+
+  pub not-right-back : NotRight a b c → NotRight c a b
+  not-right-back = prove≤ three (notRightE 0 1 2 ∷ []) O (turnE 2 0 1) (num 1) (hyp 0) tt tt refl
+
+  pub left-on : Left a b c → Left b c a
+  left-on = prove< three (leftE 0 1 2 ∷ []) O (turnE 1 2 0) (num 1) (hyp 0) tt tt refl
+
+  pub left-back : Left a b c → Left c a b
+  left-back = prove< three (leftE 0 1 2 ∷ []) O (turnE 2 0 1) (num 1) (hyp 0) tt tt refl
+
+  pub right-mirrored : Right a b c → Left a c b
+  right-mirrored = prove< three (rightE 0 1 2 ∷ []) O (turnE 0 2 1) (num 1) (hyp 0) tt tt refl
+
+  pub not-right-mirrored : NotRight a b c → NotLeft a c b
+  not-right-mirrored = prove≤ three (notRightE 0 1 2 ∷ []) (turnE 0 2 1) O (num 1) (hyp 0) tt tt refl
+
+-- ---- apart by a line
 -- No corner of P lies strictly right of a → b, every corner of Q does: no common point.
 pub beside-line : (a b : Point) (P Q : Shape) → Every (NotRight a b) P → Every (Right a b) Q → Share 2 P Q → ⊥
 beside-line a b P Q near far = apart cs m (omega arith) (below P near) (above Q far)
@@ -79,21 +109,11 @@ module _ (a b : Point) where
 -- and where it is an edge of a triangle that turns left. So what lies strictly right of one of its edges has no point in
 -- common with the triangle.
 module _ (a b c : Point) (left : Left a b c) where
-  abbrev corners : List ℤ
-  corners = values (a ∷ b ∷ c ∷ [])
-
-  -- the triangle turned
-  pub turned : Left b c a
-  turned = prove< corners (leftE 0 1 2 ∷ []) O (turnE 1 2 0) (num 1) (hyp 0) tt tt refl left
-
-  pub turned-twice : Left c a b
-  turned-twice = prove< corners (leftE 0 1 2 ∷ []) O (turnE 2 0 1) (num 1) (hyp 0) tt tt refl left
-
   pub beside-first : (Q : Shape) → Every (Right a b) Q → Share 2 (a ∷ b ∷ c ∷ []) Q → ⊥
   beside-first Q = beside-line a b (a ∷ b ∷ c ∷ []) Q (along a b .0, (along a b .1 .0, (weak left, tt)))
 
   pub beside-second : (Q : Shape) → Every (Right b c) Q → Share 2 (a ∷ b ∷ c ∷ []) Q → ⊥
-  beside-second Q = beside-line b c (a ∷ b ∷ c ∷ []) Q (weak turned, along b c)
+  beside-second Q = beside-line b c (a ∷ b ∷ c ∷ []) Q (weak (left-on a b c left), along b c)
 
   pub beside-third : (Q : Shape) → Every (Right c a) Q → Share 2 (a ∷ b ∷ c ∷ []) Q → ⊥
-  beside-third Q = beside-line c a (a ∷ b ∷ c ∷ []) Q (along c a .1 .0, (weak turned-twice, (along c a .0, tt)))
+  beside-third Q = beside-line c a (a ∷ b ∷ c ∷ []) Q (along c a .1 .0, (weak (left-back a b c left), (along c a .0, tt)))

@@ -7,7 +7,7 @@ use mathlib.Core.List.{[], _∷_}
 use mathlib.Core.Logic.{inl, inr, _↔_}
 use lib.Signed.{clashℤ}
 use Rattle.algebra.proofs.Order.{ThreeWay, minus, none, plus, three-way}
-use Rattle.algebra.proofs.Certificate.{hyp, num, _⊕_, prove≤, prove<}
+use Rattle.algebra.proofs.Certificate.{hyp, num, _⊕_, prove≤}
 use Rattle.shape.specs.Points.{Point, Shape}
 use Rattle.shape.specs.Signs.{turn}
 use Rattle.shape.specs.Sharing.{Share}
@@ -19,7 +19,7 @@ use Rattle.shape.proofs.Trading.{In, among-itself, share-trade, share-a
 use Rattle.shape.proofs.Witnesses.{point-in-triangle}
 use Rattle.shape.proofs.FlatLaws.{flat-in-plane}
 use Rattle.shape.proofs.VerdictLaws.{says-yes, says-by-sign, says-same}
-use Rattle.shape.proofs.Edges.{Right, NotRight, Left, rightE, leftE, turned, turned-twice}
+use Rattle.shape.proofs.Edges.{Right, NotRight, Left, rightE, leftE, left-on, left-back, right-mirrored}
 use Rattle.shape.proofs.TriangleLeaves as triangle
 use Rattle.shape.proofs.SegmentLeaves as segment
 
@@ -60,14 +60,14 @@ module _ (P : Shape) (p : Point) (of-P : In p P) (one two : Point → Point → 
   says-sorted a b c left =
       says-by-sign (turn a b p)
       (λ ab. says-by-sign (turn b c p)
-      (λ bc. says-same (share-turned-twice P a b c) (past-two c a b (turned-twice a b c left) (third-edge p a b c left ab bc) bc ab))
+      (λ bc. says-same (share-turned-twice P a b c) (past-two c a b (left-back a b c left) (third-edge p a b c left ab bc) bc ab))
       (λ bc. says-same (share-turned P a b c) (says-by-sign (turn c a p)
-      (past-two b c a (turned a b c left) bc ab)
-      (past-one b c a (turned a b c left) bc ab))))
+      (past-two b c a (left-on a b c left) bc ab)
+      (past-one b c a (left-on a b c left) bc ab))))
       (λ ab. says-by-sign (turn b c p)
       (λ bc. says-by-sign (turn c a p)
       (λ ca. past-two a b c left ab ca bc)
-      (λ ca. says-same (share-turned-twice P a b c) (past-one c a b (turned-twice a b c left) ca bc ab)))
+      (λ ca. says-same (share-turned-twice P a b c) (past-one c a b (left-back a b c left) ca bc ab)))
       (λ bc. says-by-sign (turn c a p)
       (λ ca. past-one a b c left ab ca bc)
       (λ ca. says-yes (share-among (of-P, tt) (among-itself (a ∷ b ∷ c ∷ [])) (point-in-triangle p a b c left ab bc ca)))))
@@ -87,7 +87,7 @@ says-in-left-order : (P : Shape) (test : Point → Point → Point → Bool) →
     (a b c : Point) → (Flat 2 (a ∷ b ∷ c ∷ []) → ⊥) → Says (inLeftOrder test a b c) (Share 2 P (a ∷ b ∷ c ∷ []))
 says-in-left-order P test says a b c not-flat =
     says-by-sign (turn a b c)
-    (λ h. says-same (share-mirrored P a b c) (says a c b (prove< (values (a ∷ b ∷ c ∷ [])) (rightE 0 1 2 ∷ []) O (turnE 0 2 1) (num 1) (hyp 0) tt tt refl h)))
+    (λ h. says-same (share-mirrored P a b c) (says a c b (right-mirrored a b c h)))
     (λ h. says a b c (turns-left a b c not-flat h))
 
 -- ---- the tests

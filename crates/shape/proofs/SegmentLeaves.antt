@@ -6,7 +6,7 @@ use mathlib.Core.List.{List, [], _∷_}
 use mathlib.Core.Logic.{_⊎_, inl, inr}
 use lib.IntN.{ℤ, pos}
 use Rattle.algebra.proofs.Order.{le-of-lt, lt-or-ge}
-use Rattle.algebra.proofs.Certificate.{hyp, num, _⊕_, _⊗_, prove≤, prove<}
+use Rattle.algebra.proofs.Certificate.{hyp, num, _⊕_, _⊗_, prove<}
 use Rattle.shape.specs.Points.{Point, Shape}
 use Rattle.shape.specs.Signs.{turn}
 use Rattle.shape.specs.Sharing.{Share}
@@ -16,7 +16,7 @@ use Rattle.shape.proofs.Symbols.{values, O, turnE}
 use Rattle.shape.proofs.Trading.{share-trade, share-among}
 use Rattle.shape.proofs.Witnesses.{segments-cross}
 use Rattle.shape.proofs.VerdictLaws.{says-yes, says-no, says-by-sign}
-use Rattle.shape.proofs.Edges.{Right, NotRight, Left, NotLeft, rightE, notRightE, leftE, beside-line, along, against, beside-second, beside-third}
+use Rattle.shape.proofs.Edges.{Right, NotRight, Left, NotLeft, rightE, notRightE, leftE, right-on, right-back, not-right-on, not-right-mirrored, beside-line, along, against, beside-second, beside-third}
 
 -- p is strictly right of c → a, and not of a → b.
 module _ (p q a b c : Point) (left : Left a b c) (inner : NotRight a b p) (past : Right c a p) where
@@ -59,12 +59,12 @@ module _ (p q a b c : Point) (left : Left a b c) (inner : NotRight a b p) (past 
           (prove< ρ (rightE 4 2 0 ∷ notRightE 4 2 1 ∷ rightE 4 0 1 ∷ []) (turnE 0 1 2) O (num 1) (hyp 0 ⊕ hyp 1 ⊕ hyp 2) tt tt refl past back h)
           (prove< ρ (leftE 2 3 4 ∷ notRightE 3 4 0 ∷ rightE 4 2 0 ∷ notRightE 4 2 1 ∷ rightE 4 0 1 ∷ []) (turnE 0 1 3) O
           (hyp 2) (hyp 0 ⊗ hyp 4 ⊕ hyp 1 ⊗ hyp 2 ⊕ hyp 1 ⊗ hyp 3 ⊕ hyp 2 ⊗ hyp 4) tt tt refl left other past back h)
-          (prove< ρ (rightE 4 0 1 ∷ []) (turnE 0 1 4) O (num 1) (hyp 0) tt tt refl h)
+          (right-on c p q h)
 
       left-side : NotRight c a q → Right p a q → Says false Meet
       left-side back h =
           right-of-qp
-          (prove< ρ (rightE 0 2 1 ∷ []) (turnE 1 0 2) O (num 1) (hyp 0) tt tt refl h)
+          (right-back p a q h)
           (prove< ρ (leftE 2 3 4 ∷ notRightE 2 3 0 ∷ rightE 4 2 0 ∷ notRightE 4 2 1 ∷ rightE 0 2 1 ∷ []) (turnE 1 0 3) O
           (hyp 2) (hyp 0 ⊗ hyp 4 ⊕ hyp 1 ⊗ hyp 2 ⊕ hyp 1 ⊗ hyp 3 ⊕ hyp 2 ⊗ hyp 4) tt tt refl left inner past back h)
           (prove< ρ (rightE 4 2 0 ∷ notRightE 4 2 1 ∷ rightE 0 2 1 ∷ []) (turnE 1 0 4) O (num 1) (hyp 0 ⊕ hyp 1 ⊕ hyp 2) tt tt refl past back h)
@@ -72,8 +72,8 @@ module _ (p q a b c : Point) (left : Left a b c) (inner : NotRight a b p) (past 
       crosses : NotRight c a q → NotRight c p q → NotRight p a q → Meet
       crosses back near h =
           crosses-ca back
-          (prove≤ ρ (notRightE 4 0 1 ∷ []) O (turnE 0 1 4) (num 1) (hyp 0) tt tt refl near)
-          (prove≤ ρ (notRightE 0 2 1 ∷ []) (turnE 0 1 2) O (num 1) (hyp 0) tt tt refl h)
+          (not-right-on c p q near)
+          (not-right-mirrored p a q h)
 
   -- ---- p is past b → c as well
   pub past-two : Right b c p → Says (segmentPastTwo p q a b c) Meet
@@ -89,7 +89,7 @@ module _ (p q a b c : Point) (left : Left a b c) (inner : NotRight a b p) (past 
       left-side : NotRight b c q → NotRight c a q → Right p a q → Says false Meet
       left-side on back h =
           right-of-qp
-          (prove< ρ (rightE 0 2 1 ∷ []) (turnE 1 0 2) O (num 1) (hyp 0) tt tt refl h)
+          (right-back p a q h)
           (prove< ρ (rightE 3 4 0 ∷ rightE 4 2 0 ∷ notRightE 3 4 1 ∷ notRightE 4 2 1 ∷ rightE 0 2 1 ∷ []) (turnE 1 0 3) O
           (num 1) (hyp 0 ⊕ hyp 1 ⊕ hyp 2 ⊕ hyp 3 ⊕ hyp 4) tt tt refl other past on back h)
           (prove< ρ (rightE 4 2 0 ∷ notRightE 4 2 1 ∷ rightE 0 2 1 ∷ []) (turnE 1 0 4) O (num 1) (hyp 0 ⊕ hyp 1 ⊕ hyp 2) tt tt refl past back h)
@@ -99,12 +99,12 @@ module _ (p q a b c : Point) (left : Left a b c) (inner : NotRight a b p) (past 
           right-of-pq
           (prove< ρ (rightE 3 4 0 ∷ rightE 4 2 0 ∷ notRightE 3 4 1 ∷ notRightE 4 2 1 ∷ rightE 3 0 1 ∷ []) (turnE 0 1 2) O
           (num 1) (hyp 0 ⊕ hyp 1 ⊕ hyp 2 ⊕ hyp 3 ⊕ hyp 4) tt tt refl other past on back h)
-          (prove< ρ (rightE 3 0 1 ∷ []) (turnE 0 1 3) O (num 1) (hyp 0) tt tt refl h)
+          (right-on b p q h)
           (prove< ρ (rightE 3 4 0 ∷ notRightE 3 4 1 ∷ rightE 3 0 1 ∷ []) (turnE 0 1 4) O (num 1) (hyp 0 ⊕ hyp 1 ⊕ hyp 2) tt tt refl other on h)
 
       crosses : NotRight b c q → NotRight c a q → NotRight p a q → NotRight b p q → (Right p q c) ⊎ (NotRight p q c) → Meet
       crosses on back near h (inl g) =
           share-among {P = S} {Q = b ∷ c ∷ []} (inl refl, (inr (inl refl), tt)) (inr (inl refl), (inr (inr (inl refl)), tt))
-          (segments-cross p q b c other on (prove≤ ρ (notRightE 3 0 1 ∷ []) O (turnE 0 1 3) (num 1) (hyp 0) tt tt refl h) (le-of-lt g))
+          (segments-cross p q b c other on (not-right-on b p q h) (le-of-lt g))
       crosses on back near h (inr g) =
-          crosses-ca back g (prove≤ ρ (notRightE 0 2 1 ∷ []) (turnE 0 1 2) O (num 1) (hyp 0) tt tt refl near)
+          crosses-ca back g (not-right-mirrored p a q near)

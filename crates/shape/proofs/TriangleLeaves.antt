@@ -3,22 +3,22 @@
 -- strictly right of it, and derives the signs that the tests did not take; a "yes" names a corner in a triangle or two edges
 -- that cross. A derived sign is one line: the facts it follows from, and s and c with s · (the sign's gap) = c. Assumes nothing.
 use mathlib.Core.Path.{refl}
-use mathlib.Core.Bool.{Bool, false, cond}
+use mathlib.Core.Bool.{Bool, true, false, cond}
 use mathlib.Core.List.{List, [], _∷_, _++_}
 use mathlib.Core.Logic.{_⊎_, inl, inr}
 use lib.IntN.{ℤ, pos}
-use Rattle.algebra.proofs.Order.{le-of-lt, lt-or-ge}
+use Rattle.algebra.proofs.Order.{weak, le-of-lt, lt-or-ge}
 use Rattle.algebra.proofs.Certificate.{Rel, hyp, num, _⊕_, _⊗_, prove≤, prove<}
 use Rattle.shape.specs.Points.{Point, Shape}
 use Rattle.shape.specs.Signs.{turn}
 use Rattle.shape.specs.Sharing.{Share}
 use Rattle.shape.specs.Verdicts.{Says}
-use Rattle.shape.specs.PlaneTest.{comesBack, cornerIn, lastEdges, trianglePastOne, trianglePastTwo}
+use Rattle.shape.specs.PlaneTest.{isRight, cornerIn, lastEdges, trianglePastOne, trianglePastTwo}
 use Rattle.shape.proofs.Symbols.{values, O, turnE}
 use Rattle.shape.proofs.Trading.{In, share-trade, share-among}
 use Rattle.shape.proofs.Witnesses.{point-in-triangle, segments-cross}
-use Rattle.shape.proofs.VerdictLaws.{says-yes, says-no, says-by-sign, says-by-two-signs}
-use Rattle.shape.proofs.Edges.{Right, NotRight, Left, NotLeft, rightE, notRightE, leftE, beside-first, beside-second, beside-third}
+use Rattle.shape.proofs.VerdictLaws.{says-yes, says-no, says-by-sign}
+use Rattle.shape.proofs.Edges.{Right, NotRight, Left, NotLeft, rightE, notRightE, leftE, right-on, right-back, not-right-on, not-right-back, right-mirrored, not-right-mirrored, beside-first, beside-second, beside-third}
 
 -- p1 is strictly right of r2 → p2, and not of p2 → q2.
 module _ (p1 q1 r1 p2 q2 r2 : Point) (left1 : Left p1 q1 r1) (left2 : Left p2 q2 r2) (inner : NotRight p2 q2 p1) (past : Right r2 p2 p1) where
@@ -66,7 +66,7 @@ module _ (p1 q1 r1 p2 q2 r2 : Point) (left1 : Left p1 q1 r1) (left2 : Left p2 q2
           (hyp 3 ⊗ hyp 3 ⊕ hyp 3 ⊗ hyp 5)
           (hyp 0 ⊗ hyp 2 ⊗ hyp 3 ⊕ hyp 1 ⊗ hyp 3 ⊗ hyp 6 ⊕ hyp 1 ⊗ hyp 5 ⊗ hyp 6 ⊕ hyp 2 ⊗ hyp 3 ⊗ hyp 7 ⊕ hyp 2 ⊗ hyp 4 ⊗ hyp 6 ⊕ hyp 3 ⊗ hyp 3 ⊗ hyp 6 ⊕ hyp 3 ⊗ hyp 5 ⊗ hyp 6) tt tt refl
           left1 left2 inner past back beyond h at-r2 in
-          let at-p2 : Right r1 p1 p2 = prove< ρ (rightE 0 3 2 ∷ []) (turnE 2 0 3) O (num 1) (hyp 0) tt tt refl h in
+          let at-p2 : Right r1 p1 p2 = right-back p1 p2 r1 h in
           says-no (beside-third p1 q1 r1 left1 T2 (at-p2, (at-q2, (at-r2, tt))))
 
       outside-q1r1 : NotRight p1 p2 r1 → Right q1 r1 p2 → Says false Meet
@@ -85,30 +85,11 @@ module _ (p1 q1 r1 p2 q2 r2 : Point) (left1 : Left p1 q1 r1) (left2 : Left p2 q2
       inside : NotRight p1 p2 r1 → NotRight q1 r1 p2 → Meet
       inside within h =
           corner-in
-          (prove≤ ρ (rightE 0 3 1 ∷ []) O (turnE 0 1 3) (num 1) (hyp 0) tt tt refl beyond) h
-          (prove≤ ρ (notRightE 0 3 2 ∷ []) O (turnE 2 0 3) (num 1) (hyp 0) tt tt refl within)
+          (weak (right-mirrored p1 p2 q1 beyond)) h
+          (not-right-back p1 p2 r1 within)
 
   -- ---- q1 is past r2 → p2 too
-  says-comes-back : Right r2 p2 q1 → {next : Bool} → (NotRight r2 p2 r1 → NotRight p1 p2 r1 → Says next Meet) →
-      Says (cond (comesBack p1 r1 p2 r2) next false) Meet
-  says-comes-back past-q1 next = says-by-two-signs (turn r2 p2 r1) (turn p1 p2 r1) outside-r2p2 outside-r1p1 next
-    where
-      outside-r2p2 : Right r2 p2 r1 → Meet → ⊥
-      outside-r2p2 h meet = beside-third p2 q2 r2 left2 T1 (past, (past-q1, (h, tt))) (share-trade meet)
-
-      outside-r1p1 : NotRight r2 p2 r1 → Right p1 p2 r1 → Meet → ⊥
-      outside-r1p1 back h =
-          let at-p2 : Right r1 p1 p2 = prove< ρ (rightE 0 3 2 ∷ []) (turnE 2 0 3) O (num 1) (hyp 0) tt tt refl h in
-          let at-r2 : Right r1 p1 r2 =
-          prove< ρ (rightE 5 3 0 ∷ notRightE 5 3 2 ∷ rightE 0 3 2 ∷ []) (turnE 2 0 5) O
-          (num 1) (hyp 0 ⊕ hyp 1 ⊕ hyp 2) tt tt refl past back h in
-          let at-q2 : Right r1 p1 q2 =
-          prove< ρ (known ++ (notRightE 5 3 2 ∷ rightE 0 3 2 ∷ [])) (turnE 2 0 4) O
-          (hyp 3) (hyp 1 ⊗ hyp 5 ⊕ hyp 2 ⊗ hyp 3 ⊕ hyp 2 ⊗ hyp 4 ⊕ hyp 3 ⊗ hyp 5) tt tt refl
-          left1 left2 inner past back h in
-          beside-third p1 q1 r1 left1 T2 (at-p2, (at-q2, (at-r2, tt)))
-
-  -- r2 is not right of q1 → r1 either: a corner or a crossing, by one more sign
+  -- r2 is not right of q1 → r1, nor p2 of r1 → p1: a corner in the triangle or a crossing, by one more sign
   meet-back : Right r2 p2 q1 → NotRight r2 p2 r1 → NotRight p1 p2 r1 → NotRight q1 r1 r2 → Meet
   meet-back past-q1 back within h = by-sign (lt-or-ge (turn q1 r1 p2) (pos 0))
     where
@@ -120,9 +101,32 @@ module _ (p1 q1 r1 p2 q2 r2 : Point) (left1 : Left p1 q1 r1) (left2 : Left p2 q2
           (prove≤ ρ (known ++ (rightE 5 3 1 ∷ notRightE 5 3 2 ∷ notRightE 0 3 2 ∷ notRightE 1 2 3 ∷ [])) O (turnE 0 1 3)
           (hyp 3 ⊗ hyp 4 ⊕ hyp 3 ⊗ hyp 5 ⊕ hyp 4 ⊗ hyp 5) (hyp 0 ⊗ hyp 3 ⊗ hyp 4 ⊕ hyp 3 ⊗ hyp 3 ⊗ hyp 7 ⊕ hyp 4 ⊗ hyp 4 ⊗ hyp 6) tt tt refl
           left1 left2 inner past past-q1 back within g)
-          g (prove≤ ρ (notRightE 0 3 2 ∷ []) O (turnE 2 0 3) (num 1) (hyp 0) tt tt refl within)
+          g (not-right-back p1 p2 r1 within)
 
-  -- r2 is: then p2 is, too
+  -- r1 decides, then r2 against q1 → r1: `next` where it is right of that edge, and otherwise p2 against r1 → p1
+  says-back : {next : Bool} → Right r2 p2 q1 → (NotRight r2 p2 r1 → Right q1 r1 r2 → Says next Meet) →
+      Says (cond (isRight r2 p2 r1) false (cond (isRight q1 r1 r2) next (cond (isRight p1 p2 r1) false true))) Meet
+  says-back past-q1 beyond =
+      says-by-sign (turn r2 p2 r1) outside-r2p2
+      (λ back. says-by-sign (turn q1 r1 r2) (beyond back)
+      (λ h. says-by-sign (turn p1 p2 r1) (outside-r1p1 back) (λ within. says-yes (meet-back past-q1 back within h))))
+    where
+      outside-r2p2 : Right r2 p2 r1 → Says false Meet
+      outside-r2p2 h = says-no (λ meet. beside-third p2 q2 r2 left2 T1 (past, (past-q1, (h, tt))) (share-trade meet))
+
+      outside-r1p1 : NotRight r2 p2 r1 → Right p1 p2 r1 → Says false Meet
+      outside-r1p1 back h =
+          let at-p2 : Right r1 p1 p2 = right-back p1 p2 r1 h in
+          let at-r2 : Right r1 p1 r2 =
+          prove< ρ (rightE 5 3 0 ∷ notRightE 5 3 2 ∷ rightE 0 3 2 ∷ []) (turnE 2 0 5) O
+          (num 1) (hyp 0 ⊕ hyp 1 ⊕ hyp 2) tt tt refl past back h in
+          let at-q2 : Right r1 p1 q2 =
+          prove< ρ (known ++ (notRightE 5 3 2 ∷ rightE 0 3 2 ∷ [])) (turnE 2 0 4) O
+          (hyp 3) (hyp 1 ⊗ hyp 5 ⊕ hyp 2 ⊗ hyp 3 ⊕ hyp 2 ⊗ hyp 4 ⊕ hyp 3 ⊗ hyp 5) tt tt refl
+          left1 left2 inner past back h in
+          says-no (beside-third p1 q1 r1 left1 T2 (at-p2, (at-q2, (at-r2, tt))))
+
+  -- where r2 is right of q1 → r1, so is p2
   p2-beyond : Right r2 p2 q1 → NotRight r2 p2 r1 → Right q1 r1 r2 → Right q1 r1 p2
   p2-beyond past-q1 back h =
       prove< ρ (rightE 5 3 1 ∷ notRightE 5 3 2 ∷ rightE 1 2 5 ∷ []) (turnE 1 2 3) O (num 1) (hyp 0 ⊕ hyp 1 ⊕ hyp 2) tt tt refl past-q1 back h
@@ -130,8 +134,7 @@ module _ (p1 q1 r1 p2 q2 r2 : Point) (left1 : Left p1 q1 r1) (left2 : Left p2 q2
   -- ---- p1 is past r2 → p2 alone
   pub past-one : NotRight q2 r2 p1 → Says (trianglePastOne p1 q1 r1 p2 q2 r2) Meet
   past-one other =
-      says-by-sign (turn r2 p2 q1)
-      (λ past-q1. says-comes-back past-q1 (λ back within. says-by-sign (turn q1 r1 r2) (outside-q1r1 past-q1 back) (λ h. says-yes (meet-back past-q1 back within h))))
+      says-by-sign (turn r2 p2 q1) (λ past-q1. says-back past-q1 (outside-q1r1 past-q1))
       (λ back. says-by-sign (turn p1 p2 q1) (says-corner-in back) (λ before. says-by-sign (turn r2 p1 q1) (outside-p1q1 back) (λ h. says-yes (crosses back before h))))
     where
       outside-q1r1 : Right r2 p2 q1 → NotRight r2 p2 r1 → Right q1 r1 r2 → Says false Meet
@@ -146,7 +149,7 @@ module _ (p1 q1 r1 p2 q2 r2 : Point) (left1 : Left p1 q1 r1) (left2 : Left p2 q2
       outside-p1q1 back h =
           let at-p2 : Right p1 q1 p2 =
           prove< ρ (rightE 5 3 0 ∷ notRightE 5 3 1 ∷ rightE 5 0 1 ∷ []) (turnE 0 1 3) O (num 1) (hyp 0 ⊕ hyp 1 ⊕ hyp 2) tt tt refl past back h in
-          let at-r2 : Right p1 q1 r2 = prove< ρ (rightE 5 0 1 ∷ []) (turnE 0 1 5) O (num 1) (hyp 0) tt tt refl h in
+          let at-r2 : Right p1 q1 r2 = right-on r2 p1 q1 h in
           let at-q2 : Right p1 q1 q2 =
           prove< ρ (known ++ (notRightE 4 5 0 ∷ notRightE 5 3 1 ∷ rightE 5 0 1 ∷ [])) (turnE 0 1 4) O
           (hyp 3) (hyp 1 ⊗ hyp 6 ⊕ hyp 3 ⊗ hyp 4 ⊕ hyp 3 ⊗ hyp 6 ⊕ hyp 4 ⊗ hyp 5) tt tt refl
@@ -156,8 +159,8 @@ module _ (p1 q1 r1 p2 q2 r2 : Point) (left1 : Left p1 q1 r1) (left2 : Left p2 q2
       crosses : NotRight r2 p2 q1 → NotRight p1 p2 q1 → NotRight r2 p1 q1 → Meet
       crosses back before h =
           edges-cross p1 q1 r2 p2 (inl refl) (inr (inl refl)) (inr (inr (inl refl))) (inl refl) past back
-          (prove≤ ρ (notRightE 5 0 1 ∷ []) O (turnE 0 1 5) (num 1) (hyp 0) tt tt refl h)
-          (prove≤ ρ (notRightE 0 3 1 ∷ []) (turnE 0 1 3) O (num 1) (hyp 0) tt tt refl before)
+          (not-right-on r2 p1 q1 h)
+          (not-right-mirrored p1 p2 q1 before)
 
   -- ---- p1 is past q2 → r2 as well
   -- the edges q1 → r1 and q2 → r2 decide; what remains to be shown by the facts of the branch
@@ -211,13 +214,12 @@ module _ (p1 q1 r1 p2 q2 r2 : Point) (left1 : Left p1 q1 r1) (left2 : Left p2 q2
 
   pub past-two : Right q2 r2 p1 → Says (trianglePastTwo p1 q1 r1 p2 q2 r2) Meet
   past-two other =
-      says-by-sign (turn r2 p2 q1)
-      (λ past-q1. says-comes-back past-q1
-      (λ back within. says-by-sign (turn q1 r1 r2) (last-edges-back other past-q1 back) (λ h. says-yes (meet-back past-q1 back within h))))
-      (λ back. says-by-sign (turn p1 p2 q1) (says-corner-in back)
+      says-by-sign (turn r2 p2 q1) (λ past-q1. says-back past-q1 (last-edges-back other past-q1))
+      (λ back. says-by-sign (turn q2 r2 q1)
+      (λ past-q1. says-by-sign (turn q2 p1 q1) (outside-p1q1 back) (λ near. last-edges-on other back near past-q1))
+      (λ h. says-by-sign (turn p1 p2 q1) (says-corner-in back)
       (λ before. says-by-sign (turn q2 p1 q1) (outside-p1q1 back)
-      (λ near. says-by-sign (turn q2 r2 q1) (last-edges-on other back near)
-      (λ h. says-yes (crosses back before near h (lt-or-ge (turn p1 q1 r2) (pos 0)))))))
+      (λ near. says-yes (crosses back before near h (lt-or-ge (turn p1 q1 r2) (pos 0)))))))
     where
       outside-p1q1 : NotRight r2 p2 q1 → Right q2 p1 q1 → Says false Meet
       outside-p1q1 back h =
@@ -225,7 +227,7 @@ module _ (p1 q1 r1 p2 q2 r2 : Point) (left1 : Left p1 q1 r1) (left2 : Left p2 q2
           prove< ρ (known ++ (rightE 4 5 0 ∷ notRightE 5 3 1 ∷ rightE 4 0 1 ∷ [])) (turnE 0 1 3) O
           (hyp 1 ⊕ hyp 3) (hyp 1 ⊗ hyp 3 ⊕ hyp 2 ⊗ hyp 5 ⊕ hyp 3 ⊗ hyp 3 ⊕ hyp 3 ⊗ hyp 4 ⊕ hyp 3 ⊗ hyp 6) tt tt refl
           left1 left2 inner past other back h in
-          let at-q2 : Right p1 q1 q2 = prove< ρ (rightE 4 0 1 ∷ []) (turnE 0 1 4) O (num 1) (hyp 0) tt tt refl h in
+          let at-q2 : Right p1 q1 q2 = right-on q2 p1 q1 h in
           let at-r2 : Right p1 q1 r2 =
           prove< ρ (known ++ (rightE 4 5 0 ∷ notRightE 5 3 1 ∷ rightE 4 0 1 ∷ [])) (turnE 0 1 5) O
           (hyp 1 ⊕ hyp 3) (hyp 3 ⊗ hyp 4 ⊕ hyp 3 ⊗ hyp 6 ⊕ hyp 4 ⊗ hyp 5) tt tt refl
@@ -235,7 +237,7 @@ module _ (p1 q1 r1 p2 q2 r2 : Point) (left1 : Left p1 q1 r1) (left2 : Left p2 q2
       crosses : NotRight r2 p2 q1 → NotRight p1 p2 q1 → NotRight q2 p1 q1 → NotRight q2 r2 q1 → (Right p1 q1 r2) ⊎ (NotRight p1 q1 r2) → Meet
       crosses back before near h (inl g) =
           edges-cross p1 q1 q2 r2 (inl refl) (inr (inl refl)) (inr (inl refl)) (inr (inr (inl refl))) other h
-          (prove≤ ρ (notRightE 4 0 1 ∷ []) O (turnE 0 1 4) (num 1) (hyp 0) tt tt refl near) (le-of-lt g)
+          (not-right-on q2 p1 q1 near) (le-of-lt g)
       crosses back before near h (inr g) =
           edges-cross p1 q1 r2 p2 (inl refl) (inr (inl refl)) (inr (inr (inl refl))) (inl refl) past back g
-          (prove≤ ρ (notRightE 0 3 1 ∷ []) (turnE 0 1 3) O (num 1) (hyp 0) tt tt refl before)
+          (not-right-mirrored p1 p2 q1 before)

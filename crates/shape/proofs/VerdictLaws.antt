@@ -26,18 +26,6 @@ says-by-sign {Claim} {v} {w} z below above = by-test (ltZ z (pos 0)) refl
     by-test true e = below (ltZ-yes (subst T (sym e) tt))
     by-test false e = above (ltZ-no (subst (λ (t : Bool). T (not t)) (sym e) tt))
 
--- Two signs that must both not be below zero, and then one more decision.
-pub says-by-two-signs : {Claim : Type 0} {v : Bool} (y z : ℤ) → (y <ℤ pos 0 → Claim → ⊥) → (pos 0 ≤ℤ y → z <ℤ pos 0 → Claim → ⊥) →
-    (pos 0 ≤ℤ y → pos 0 ≤ℤ z → Says v Claim) → Says (cond (cond (ltZ y (pos 0)) false (cond (ltZ z (pos 0)) false true)) v false) Claim
-says-by-two-signs {Claim} {v} y z first second further =
-    subst (λ (b : Bool). Says b Claim) (sym (in-turn (ltZ y (pos 0)) (ltZ z (pos 0))))
-    (says-by-sign y (λ h. says-no (first h)) (λ h. says-by-sign z (λ g. says-no (second h g)) (further h)))
-  where
-    in-turn : (s t : Bool) → cond (cond s false (cond t false true)) v false ≡ cond s false (cond t false v)
-    in-turn true t = refl
-    in-turn false true = refl
-    in-turn false false = refl
-
 -- The same verdict on claims that hold together.
 pub says-same : {v : Bool} {Claim Other : Type 0} → Claim ↔ Other → Says v Claim → Says v Other
 says-same same s = record { yes = λ e. same .0 (s .yes e); no = λ e other. s .no e (same .1 other) }

@@ -32,10 +32,6 @@ sorted p pastOne pastTwo a b c =
     (cond (isRight c a p) (pastOne a b c) true))
 
 -- ---- two triangles p1 q1 r1 and p2 q2 r2, both turning left
--- Where q1 is past r2 → p2 like p1: r1 is not, and the edge r1 → p1 comes back from there with p2 not right of it.
-abbrev pub comesBack : (p1 r1 p2 r2 : Point) → Bool
-comesBack p1 r1 p2 r2 = cond (isRight r2 p2 r1) false (cond (isRight p1 p2 r1) false true)
-
 -- Where p1 → q1 passes beyond p2: p2 is in triangle 1.
 abbrev pub cornerIn : (p1 q1 r1 p2 : Point) → Bool
 cornerIn p1 q1 r1 p2 = cond (isRight p1 p2 r1) false (cond (isRight q1 r1 p2) false true)
@@ -48,7 +44,9 @@ lastEdges q1 r1 q2 r2 = cond (isRight q1 r1 q2) false (cond (isRight q2 r2 r1) f
 abbrev pub trianglePastOne : (p1 q1 r1 p2 q2 r2 : Point) → Bool
 trianglePastOne p1 q1 r1 p2 q2 r2 =
     cond (isRight r2 p2 q1)
-    (cond (comesBack p1 r1 p2 r2) (cond (isRight q1 r1 r2) false true) false)
+    (cond (isRight r2 p2 r1) false
+    (cond (isRight q1 r1 r2) false
+    (cond (isRight p1 p2 r1) false true)))
     (cond (isRight p1 p2 q1) (cornerIn p1 q1 r1 p2)
     (cond (isRight r2 p1 q1) false true))
 
@@ -56,10 +54,13 @@ trianglePastOne p1 q1 r1 p2 q2 r2 =
 abbrev pub trianglePastTwo : (p1 q1 r1 p2 q2 r2 : Point) → Bool
 trianglePastTwo p1 q1 r1 p2 q2 r2 =
     cond (isRight r2 p2 q1)
-    (cond (comesBack p1 r1 p2 r2) (cond (isRight q1 r1 r2) (lastEdges q1 r1 q2 r2) true) false)
+    (cond (isRight r2 p2 r1) false
+    (cond (isRight q1 r1 r2) (lastEdges q1 r1 q2 r2)
+    (cond (isRight p1 p2 r1) false true)))
+    (cond (isRight q2 r2 q1)
+    (cond (isRight q2 p1 q1) false (lastEdges q1 r1 q2 r2))
     (cond (isRight p1 p2 q1) (cornerIn p1 q1 r1 p2)
-    (cond (isRight q2 p1 q1) false
-    (cond (isRight q2 r2 q1) (lastEdges q1 r1 q2 r2) true)))
+    (cond (isRight q2 p1 q1) false true)))
 
 -- p1 sorted by its signs.
 abbrev pub triangleSorted : (p1 q1 r1 p2 q2 r2 : Point) → Bool
