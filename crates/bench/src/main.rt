@@ -7,6 +7,7 @@ use predicate::Refusal;
 use predicate::Sign;
 use predicate::SignAnswer;
 use predicate::ValueAnswer;
+use predicate::VerdictAnswer;
 
 // P11's L, the end of the grid.
 const L: i32 = 524_288;
@@ -64,6 +65,14 @@ fn say_value(answer: ValueAnswer) {
     }
 }
 
+fn say_verdict(answer: VerdictAnswer) {
+    match answer {
+        VerdictAnswer::Refused(why) => say_refusal(why),
+        VerdictAnswer::Meeting => say(b"yes"),
+        VerdictAnswer::Apart => say(b"no"),
+    }
+}
+
 fn turn_row(row: &[u8], points: &[i32]) {
     say(row);
     say(b": sign ");
@@ -82,13 +91,35 @@ fn side_row(row: &[u8], points: &[i32]) {
     say(b"\n");
 }
 
-// The rows of document 01 that the sign calls answer.
+fn flat_row(row: &[u8], first: &[i32], second: &[i32]) {
+    say(row);
+    say(b": ");
+    say_verdict(predicate::flat_verdict(first, second));
+    say(b"\n");
+}
+
+// The rows of document 01 that the calls answer so far; those of one plane with z dropped.
 fn table_rows() {
     say(b"Rows of the bench table\n");
+    flat_row(
+        b"P5   flat (0,0) (10,0) (0,10); (1,1) (2,1) (1,2)",
+        &[0, 0, 10, 0, 0, 10],
+        &[1, 1, 2, 1, 1, 2],
+    );
+    flat_row(
+        b"P6   flat A; (3,3) (5,3) (3,5)",
+        &[0, 0, 4, 0, 0, 4],
+        &[3, 3, 5, 3, 3, 5],
+    );
     turn_row(b"P10  turn of (0,0) (4,0) (0,4)", &[0, 0, 4, 0, 0, 4]);
     side_row(
         b"P11  side of (L,L,-L) (L,-L,L) (-L,L,L) (-L,-L,-L)",
         &[L, L, -L, L, -L, L, -L, L, L, -L, -L, -L],
+    );
+    flat_row(
+        b"12   flat (0,0) (1,1) (2,2); A",
+        &[0, 0, 1, 1, 2, 2],
+        &[0, 0, 4, 0, 0, 4],
     );
     turn_row(b"13   turn with a coordinate 524,288", &[0, 0, L, 0, 0, 4]);
     turn_row(
@@ -159,8 +190,71 @@ fn side_rows() {
     );
 }
 
+// The flat test where the triangles touch or nearly do. A is (0,0) (4,0) (0,4).
+fn flat_rows() {
+    say(b"Further rows of the flat test\n");
+    flat_row(b"A; A", &[0, 0, 4, 0, 0, 4], &[0, 0, 4, 0, 0, 4]);
+    flat_row(b"one corner", &[0, 0, 4, 0, 0, 4], &[4, 0, 5, 0, 5, 1]);
+    flat_row(b"one edge", &[0, 0, 4, 0, 0, 4], &[0, 0, 4, 0, 0, -4]);
+    flat_row(
+        b"a corner on an edge",
+        &[0, 0, 4, 0, 0, 4],
+        &[2, 2, 5, 2, 5, 5],
+    );
+    flat_row(
+        b"a corner one past the edge",
+        &[0, 0, 4, 0, 0, 4],
+        &[3, 2, 5, 2, 5, 5],
+    );
+    flat_row(
+        b"inside, both turning right",
+        &[0, 0, 0, 4, 4, 0],
+        &[1, 1, 1, 2, 2, 1],
+    );
+    flat_row(
+        b"from end to end of the grid, across",
+        &[-L, -L, L, L, -L, L],
+        &[L, -L, -L, L, -L, -L],
+    );
+    flat_row(
+        b"from end to end of the grid, apart",
+        &[-L, -L, L, -L, -L, L],
+        &[L, L, 1, L, L, 1],
+    );
+}
+
+// What the flat test refuses, and in which order.
+fn flat_refusals() {
+    say(b"Refusals of the flat test\n");
+    flat_row(b"no numbers; no numbers", &[], &[]);
+    flat_row(b"A; 5 numbers", &[0, 0, 4, 0, 0, 4], &[0, 0, 4, 0, 0]);
+    flat_row(
+        b"off the grid; 9 numbers",
+        &[L + 1, 0, 4, 0, 0, 4],
+        &[0, 0, 0, 4, 0, 0, 0, 4, 0],
+    );
+    flat_row(
+        b"off the grid and flat; A",
+        &[0, 0, 0, 0, L + 1, 0],
+        &[0, 0, 4, 0, 0, 4],
+    );
+    flat_row(
+        b"flat; off the grid",
+        &[0, 0, 0, 0, 4, 0],
+        &[-L - 1, 0, 4, 0, 0, 4],
+    );
+    flat_row(
+        b"A; positions 3 and 5 off the grid",
+        &[0, 0, 4, 0, 0, 4],
+        &[0, 0, 4, -L - 1, 0, L + 1],
+    );
+    flat_row(b"A; flat", &[0, 0, 4, 0, 0, 4], &[5, 5, 1, 1, 3, 3]);
+}
+
 fn main() {
     table_rows();
     turn_rows();
     side_rows();
+    flat_rows();
+    flat_refusals();
 }

@@ -1,6 +1,22 @@
--- Laws of checks that stand before an answer (specs/Answers.antt). Assumes nothing.
-use mathlib.Core.Path.{_≡_, refl}
-use Rattle.predicate.specs.Answers.{Answer, served, refused, Check, _then_, withServed}
+-- Laws of answers: what they tell, and the checks that stand before them (specs/Answers.antt, specs/Told.antt). Assumes nothing.
+use mathlib.Core.Path.{_≡_, refl, sym}
+use Prim.Native.Nat.{ℕ}
+use native.Mathlib.Omega.{arith}
+use Rattle.predicate.specs.Answers.{Answer, served, refused, Check, fine, _then_, withServed}
+use Rattle.predicate.specs.Told.{toldRefusal}
+use Rattle.predicate.specs.declared.answer.Refusal.{Refusal}
+
+-- Served and refused are never the same.
+pub served-not-refused : {A : Type 0} (a : A) (why : Refusal) → _≡_ {A = Answer A} (served a) (toldRefusal why) → ⊥
+served-not-refused a why e = let z : _≡_ {A = ℕ} 0 1 = cc in omega arith
+
+-- A refusal is fixed by what it tells.
+pub refusal-fixed : {A : Type 0} (why why′ : Refusal) → _≡_ {A = Answer A} (toldRefusal why) (toldRefusal why′) → why ≡ why′
+refusal-fixed why why′ e =
+    let number : why .number ≡ why′ .number = cc in
+    let side : why .side ≡ why′ .side = cc in
+    let place : why .place ≡ why′ .place = cc in
+    λ i. record { number = number i; side = side i; place = place i }
 
 -- What follows two checks taken together follows them one by one.
 pub then-assoc : {A : Type 0} (x y : Check) (a : Answer A) → ((x then y) then a) ≡ (x then (y then a))
@@ -11,3 +27,21 @@ then-assoc (refused n s p) y a = refl
 pub served-later : {A B : Type 0} (f : A → B) (c : Check) (a : Answer A) → withServed f (c then a) ≡ (c then withServed f a)
 served-later f (served u) a = refl
 served-later f (refused n s p) a = refl
+
+-- A check, and then what is served: where that is refused, the check refused it; where it is served, the check was fine.
+pub then-refused : {A : Type 0} (c : Check) (a : A) (why : Refusal) → toldRefusal why ≡ (c then served a) → c ≡ toldRefusal why
+then-refused (served u) a why e = absurd (served-not-refused a why (sym e))
+then-refused (refused number side place) a why e =
+    let n : number ≡ why .number = cc in
+    let s : side ≡ why .side = cc in
+    let p : place ≡ why .place = cc in
+    λ i. refused (n i) (s i) (p i)
+
+pub then-served : {A : Type 0} (c : Check) (a b : A) → served b ≡ (c then served a) → (c ≡ fine) × (b ≡ a)
+then-served (served u) a b e = (refl, cc)
+then-served (refused number side place) a b e = let z : _≡_ {A = ℕ} 0 1 = cc in absurd (omega arith)
+
+-- Two checks are fine together where each is.
+pub then-fine : (x y : Check) → (x then y) ≡ fine → (x ≡ fine) × (y ≡ fine)
+then-fine (served u) y e = (refl, e)
+then-fine (refused number side place) y e = let z : _≡_ {A = ℕ} 0 1 = cc in absurd (omega arith)

@@ -1,32 +1,24 @@
 -- No second answer meets a contract: what an answer tells fixes the answer, and each contract fixes what it tells.
 -- Assumes nothing.
 use mathlib.Core.Path.{_≡_, refl, sym, ap, _∙_}
+use mathlib.Core.Bool.{Bool, true, false}
 use mathlib.Core.List.{List}
 use Prim.Native.Nat.{ℕ, zero, suc}
-use native.Mathlib.Omega.{arith}
 use lib.IntN.{ℤ, pos, negsuc}
-use Rattle.predicate.specs.Answers.{Answer, served}
-use Rattle.predicate.specs.Rules.{valueRule, signRule}
-use Rattle.predicate.specs.Told.{signNumber, toldRefusal, toldSign, toldValue}
-use Rattle.predicate.specs.declared.answer.Refusal.{Refusal}
+use Rattle.shape.specs.Verdicts.{Says}
+use Rattle.shape.proofs.VerdictLaws.{says-fixed}
+use Rattle.predicate.specs.Answers.{Answer, served, refused, Check, fine, _then_}
+use Rattle.predicate.specs.Rules.{valueRule, signRule, pairChecks, VerdictRule}
+use Rattle.predicate.specs.Told.{signNumber, toldSign, toldValue, toldVerdict}
 use Rattle.predicate.specs.declared.answer.Sign.{Sign}
 use Rattle.predicate.specs.declared.answer.Sign.the-variants.{Negative, Zero, Positive}
 use Rattle.predicate.specs.declared.answer.SignAnswer.{SignAnswer}
 use Rattle.predicate.specs.declared.answer.SignAnswer.the-variants.{Signed, Refused as SignRefused}
 use Rattle.predicate.specs.declared.answer.ValueAnswer.{ValueAnswer}
 use Rattle.predicate.specs.declared.answer.ValueAnswer.the-variants.{Valued, Refused as ValueRefused}
-
--- ---- served and refused are never the same
-served-not-refused : {A : Type 0} (a : A) (why : Refusal) → _≡_ {A = Answer A} (served a) (toldRefusal why) → ⊥
-served-not-refused a why e = let z : _≡_ {A = ℕ} 0 1 = cc in omega arith
-
--- ---- the same refusal
-refusal-fixed : {A : Type 0} (why why′ : Refusal) → _≡_ {A = Answer A} (toldRefusal why) (toldRefusal why′) → why ≡ why′
-refusal-fixed why why′ e =
-    let number : why .number ≡ why′ .number = cc in
-    let side : why .side ≡ why′ .side = cc in
-    let place : why .place ≡ why′ .place = cc in
-    λ i. record { number = number i; side = side i; place = place i }
+use Rattle.predicate.specs.declared.answer.VerdictAnswer.{VerdictAnswer}
+use Rattle.predicate.specs.declared.answer.VerdictAnswer.the-variants.{Meeting, Apart, Refused as VerdictRefused}
+use Rattle.predicate.proofs.AnswerLaws.{served-not-refused, refusal-fixed}
 
 -- ---- the same sign: a sign is read back off its number
 signBack : ℤ → Sign
@@ -64,3 +56,29 @@ sign-unique n numbers r s e e′ = sign-answer-fixed r s (e ∙ sym e′)
 pub value-unique : (n : ℕ) (numbers : List ℤ) (r s : ValueAnswer) →
     toldValue r ≡ valueRule n numbers → toldValue s ≡ valueRule n numbers → r ≡ s
 value-unique n numbers r s e e′ = value-answer-fixed r s (e ∙ sym e′)
+
+-- ---- the verdict calls
+-- One answer at most is right.
+pub rule-fixed : {n k m : ℕ} {first second : List ℤ} {a b : Answer Bool} → VerdictRule n k m first second a → VerdictRule n k m first second b → a ≡ b
+rule-fixed {n} {k} {m} {first} {second} r s = r .told ∙ same (pairChecks n k m first second) (r .right) (s .right) ∙ sym (s .told)
+  where
+    same : {v w : Bool} {Claim : Type 0} (c : Check) → (c ≡ fine → Says v Claim) → (c ≡ fine → Says w Claim) → (c then served v) ≡ (c then served w)
+    same (served u) f g = ap served (says-fixed (f refl) (g refl))
+    same (refused number side place) f g = refl
+
+-- A verdict is read back off what it tells.
+verdictBack : Answer Bool → VerdictAnswer
+verdictBack (served true) = Meeting
+verdictBack (served false) = Apart
+verdictBack (refused number side place) = VerdictRefused (record { number = number; side = side; place = place })
+
+verdict-back : (r : VerdictAnswer) → verdictBack (toldVerdict r) ≡ r
+unfolding verdictBack
+verdict-back Meeting = refl
+verdict-back Apart = refl
+verdict-back (VerdictRefused why) = refl
+
+-- Two answers that meet the contract of a verdict call (`flat_verdict` has n = 2, k = m = 3) are equal.
+pub verdict-unique : {n k m : ℕ} {first second : List ℤ} (r s : VerdictAnswer) →
+    VerdictRule n k m first second (toldVerdict r) → VerdictRule n k m first second (toldVerdict s) → r ≡ s
+verdict-unique r s e e′ = sym (verdict-back r) ∙ ap verdictBack (rule-fixed e e′) ∙ verdict-back s

@@ -23,3 +23,10 @@ pub enum ValueAnswer {
     Valued(i64),
     Refused(Refusal),
 }
+
+// Whether two shapes have a point in common.
+pub enum VerdictAnswer {
+    Meeting,
+    Apart,
+    Refused(Refusal),
+}

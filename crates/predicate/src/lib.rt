@@ -1,18 +1,23 @@
-// The exact predicates: the sign of the turn of three flat points and of the side of four space points.
+// The exact predicates: the sign of the turn of three flat points and of the side of four space points, and the verdict on two
+// triangles in the plane.
 //
-// A call takes its points as one lent list of numbers and has no `requires`: what it can't serve it refuses, by document
+// A call takes its points or shapes as lent lists of numbers and has no `requires`: what it can't serve it refuses, by document
 // 01's number, side and place. specs/Rules.antt gives the answer to every list, specs/Told.antt says what each case of an
 // answer tells, and proofs/Unique.antt shows that no second answer meets a contract.
 mod answer;
 mod determinant;
 mod grid;
+mod plane;
 mod signs;
+mod verdicts;
 
 pub use answer::Refusal;
 pub use answer::Sign;
 pub use answer::SignAnswer;
 pub use answer::ValueAnswer;
+pub use answer::VerdictAnswer;
 pub use signs::side_sign;
 pub use signs::side_value;
 pub use signs::turn_sign;
 pub use signs::turn_value;
+pub use verdicts::flat_verdict;

@@ -12,9 +12,6 @@ use Rattle.predicate.specs.Grid.{onGrid}
 use Rattle.predicate.proofs.GridLaws.{lowest-is, tested-off, tested-on}
 use Rattle.predicate.proofs.grid.lowest_off.Statement.{statement}
 use Rattle.predicate.proofs.grid.lowest_off.Tie as tie
-use Rattle.predicate.proofs.grid.lowest_off.Reads as reads
-use Rattle.predicate.proofs.grid.lowest_off.Lts as lts
-use Rattle.predicate.proofs.grid.off_grid.Reads as off-grid-reads
 
 abbrev Inv-loop : tie.InvT-loop
 Inv-loop numbers i₀ i = (i ≤ length numbers) × ((k : ℕ) → k < i → onGrid (getD numbers k (pos 0)) ≡ true)

@@ -1,0 +1,167 @@
+-- Each reason of a verdict call is given exactly in the case that document 01's table states, with the side and the place stated
+-- there: over the number of coordinates n and of corners k and m, whatever is served. Assumes nothing.
+use mathlib.Core.Path.{_≡_, refl, sym, ap, _∙_, subst}
+use mathlib.Core.Bool.{Bool}
+use mathlib.Core.List.{List}
+use mathlib.Core.Logic.{_↔_}
+use Prim.Native.Nat.{ℕ, _*_}
+use lib.IntN.{ℤ}
+use lib.ListN.{length}
+use Rattle.shape.specs.Points.{Shape, pointsAt}
+use Rattle.shape.specs.Flat.{Flat}
+use Rattle.predicate.specs.Answers.{Answer, served, refused, Check, fine, _then_, numberOf, sideOf, placeOf}
+use Rattle.predicate.specs.Rules.{rightLength, allOnGrid, notFlat, pairChecks, VerdictRule}
+use Rattle.predicate.proofs.GridLaws.{Lowest}
+use Rattle.predicate.proofs.CheckLaws.{LengthCase, right, wrong, length-case, GridCase, all, not-all, grid-case, OnGrid, FlatCase, flat, not-flat, flat-case, long-fine, not-long-refused, on-fine, off-refused, not-flat-fine, flat-refused}
+
+-- Number, side and place are these.
+abbrev pub Are : (number side place : ℕ) → (number′ side′ place′ : ℕ) → Type 0
+Are number side place number′ side′ place′ = (number ≡ number′) × (side ≡ side′) × (place ≡ place′)
+
+module _ (n k m : ℕ) (first second : List ℤ) where
+  abbrev P : Shape
+  P = pointsAt n k 0 first
+
+  abbrev Q : Shape
+  Q = pointsAt n m 0 second
+
+  -- The table: what goes with each number, side and place.
+  pub data PairCase (number side place : ℕ) : Type 0 where
+    first-length : (length first ≡ k * n → ⊥) → Are number side place 3 0 (length first) → PairCase number side place
+    second-length : length first ≡ k * n → (length second ≡ m * n → ⊥) → Are number side place 3 1 (length second) → PairCase number side place
+    first-off : length first ≡ k * n → length second ≡ m * n → Lowest first place → Are number side place 1 0 place → PairCase number side place
+    first-flat : length first ≡ k * n → length second ≡ m * n → OnGrid first → Flat n P → Are number side place 2 0 0 → PairCase number side place
+    second-off : length first ≡ k * n → length second ≡ m * n → OnGrid first → (Flat n P → ⊥) →
+        Lowest second place → Are number side place 1 1 place → PairCase number side place
+    second-flat : length first ≡ k * n → length second ≡ m * n → OnGrid first → (Flat n P → ⊥) →
+        OnGrid second → Flat n Q → Are number side place 2 1 0 → PairCase number side place
+    none : length first ≡ k * n → length second ≡ m * n → OnGrid first → (Flat n P → ⊥) →
+        OnGrid second → (Flat n Q → ⊥) → Are number side place 0 0 0 → PairCase number side place
+
+  -- ---- what each check finds makes what they find together
+  abbrev together : (a b c d e f : Check) → Check
+  together a b c d e f = a then b then (c then d) then (e then f)
+
+  abbrev one : Check
+  one = rightLength 0 (k * n) first
+
+  abbrev two : Check
+  two = rightLength 1 (m * n) second
+
+  abbrev three : Check
+  three = allOnGrid 0 first
+
+  abbrev four : Check
+  four = notFlat n 0 0 P
+
+  abbrev five : Check
+  five = allOnGrid 1 second
+
+  abbrev six : Check
+  six = notFlat n 1 0 Q
+
+  abbrev checks : Check
+  checks = pairChecks n k m first second
+
+  -- ---- from the case to the checks
+  abbrev Finds : Check → (number side place : ℕ) → Type 0
+  Finds c number side place = Are (numberOf c) (sideOf c) (placeOf c) number side place
+
+  finds : (c : Check) (x y z : ℕ) → checks ≡ c → Are (numberOf c) (sideOf c) (placeOf c) x y z → (number side place : ℕ) →
+      Are number side place x y z → Finds checks number side place
+  finds c x y z e a number side place b =
+      (ap numberOf e ∙ a .0 ∙ sym (b .0), ap sideOf e ∙ a .1 ∙ sym (b .1), ap placeOf e ∙ a .2 ∙ sym (b .2))
+
+  from-case : (number side place : ℕ) → PairCase number side place → Finds checks number side place
+  from-case number side place (first-length h a) =
+      let e = not-long-refused 0 (k * n) first h in
+      finds (refused 3 0 (length first)) 3 0 (length first) (λ i. together (e i) two three four five six) (refl, refl, refl) number side place a
+  from-case number side place (second-length l h a) =
+      let d = long-fine 0 (k * n) first l in
+      let e = not-long-refused 1 (m * n) second h in
+      finds (refused 3 1 (length second)) 3 1 (length second) (λ i. together (d i) (e i) three four five six) (refl, refl, refl) number side place a
+  from-case number side place (first-off l l′ low a) =
+      let d = long-fine 0 (k * n) first l in
+      let e = long-fine 1 (m * n) second l′ in
+      let f = off-refused 0 place first low in
+      finds (refused 1 0 place) 1 0 place (λ i. together (d i) (e i) (f i) four five six) (refl, refl, refl) number side place a
+  from-case number side place (first-flat l l′ on h a) =
+      let d = long-fine 0 (k * n) first l in
+      let e = long-fine 1 (m * n) second l′ in
+      let f = on-fine 0 first on in
+      let g = flat-refused n 0 0 P h in
+      finds (refused 2 0 0) 2 0 0 (λ i. together (d i) (e i) (f i) (g i) five six) (refl, refl, refl) number side place a
+  from-case number side place (second-off l l′ on h low a) =
+      let d = long-fine 0 (k * n) first l in
+      let e = long-fine 1 (m * n) second l′ in
+      let f = on-fine 0 first on in
+      let g = not-flat-fine n 0 0 P h in
+      let f′ = off-refused 1 place second low in
+      finds (refused 1 1 place) 1 1 place (λ i. together (d i) (e i) (f i) (g i) (f′ i) six) (refl, refl, refl) number side place a
+  from-case number side place (second-flat l l′ on h on′ h′ a) =
+      let d = long-fine 0 (k * n) first l in
+      let e = long-fine 1 (m * n) second l′ in
+      let f = on-fine 0 first on in
+      let g = not-flat-fine n 0 0 P h in
+      let f′ = on-fine 1 second on′ in
+      let g′ = flat-refused n 1 0 Q h′ in
+      finds (refused 2 1 0) 2 1 0 (λ i. together (d i) (e i) (f i) (g i) (f′ i) (g′ i)) (refl, refl, refl) number side place a
+  from-case number side place (none l l′ on h on′ h′ a) =
+      let d = long-fine 0 (k * n) first l in
+      let e = long-fine 1 (m * n) second l′ in
+      let f = on-fine 0 first on in
+      let g = not-flat-fine n 0 0 P h in
+      let f′ = on-fine 1 second on′ in
+      let g′ = not-flat-fine n 1 0 Q h′ in
+      finds fine 0 0 0 (λ i. together (d i) (e i) (f i) (g i) (f′ i) (g′ i)) (refl, refl, refl) number side place a
+
+  -- ---- from the checks to the case: some case holds, and what they find goes with it
+  some-case : PairCase (numberOf checks) (sideOf checks) (placeOf checks)
+  some-case = by-lengths (length-case 0 (k * n) first) (length-case 1 (m * n) second)
+    where
+      by-second : length first ≡ k * n → length second ≡ m * n → OnGrid first → (Flat n P → ⊥) → GridCase 1 second → FlatCase n 1 0 Q →
+          PairCase (numberOf checks) (sideOf checks) (placeOf checks)
+      by-second l l′ on h (not-all low e) g =
+          let found = from-case 1 1 _ (second-off l l′ on h low (refl, refl, refl)) in
+          second-off l l′ on h (subst (Lowest second) (sym (found .2)) low) (found .0, found .1, refl)
+      by-second l l′ on h (all on′ e) (flat h′ g) = second-flat l l′ on h on′ h′ (from-case 2 1 0 (second-flat l l′ on h on′ h′ (refl, refl, refl)))
+      by-second l l′ on h (all on′ e) (not-flat h′ g) = none l l′ on h on′ h′ (from-case 0 0 0 (none l l′ on h on′ h′ (refl, refl, refl)))
+
+      by-first : length first ≡ k * n → length second ≡ m * n → GridCase 0 first → FlatCase n 0 0 P → PairCase (numberOf checks) (sideOf checks) (placeOf checks)
+      by-first l l′ (not-all low e) g =
+          let found = from-case 1 0 _ (first-off l l′ low (refl, refl, refl)) in
+          first-off l l′ (subst (Lowest first) (sym (found .2)) low) (found .0, found .1, refl)
+      by-first l l′ (all on e) (flat h g) = first-flat l l′ on h (from-case 2 0 0 (first-flat l l′ on h (refl, refl, refl)))
+      by-first l l′ (all on e) (not-flat h g) = by-second l l′ on h (grid-case 1 second) (flat-case n 1 0 Q)
+
+      by-lengths : LengthCase 0 (k * n) first → LengthCase 1 (m * n) second → PairCase (numberOf checks) (sideOf checks) (placeOf checks)
+      by-lengths (wrong h e) g = first-length h (from-case 3 0 (length first) (first-length h (refl, refl, refl)))
+      by-lengths (right l e) (wrong h g) = second-length l h (from-case 3 1 (length second) (second-length l h (refl, refl, refl)))
+      by-lengths (right l e) (right l′ g) = by-first l l′ (grid-case 0 first) (flat-case n 0 0 P)
+
+  -- ---- the answer
+  -- It gives what the checks find.
+  same-numbers : {A : Type 0} (c : Check) (v : A) → Are (numberOf (c then served v)) (sideOf (c then served v)) (placeOf (c then served v)) (numberOf c) (sideOf c) (placeOf c)
+  same-numbers (served u) v = (refl, refl, refl)
+  same-numbers (refused number side place) v = (refl, refl, refl)
+
+  -- An answer that meets the contract of a verdict call gives a number, a side and a place exactly in their case.
+  pub pair-exactly : (a : Answer Bool) → VerdictRule n k m first second a → (number side place : ℕ) →
+      PairCase number side place ↔ Are (numberOf a) (sideOf a) (placeOf a) number side place
+  pair-exactly a rule number side place = (to-answer, to-case)
+    where
+      same : Are (numberOf a) (sideOf a) (placeOf a) (numberOf checks) (sideOf checks) (placeOf checks)
+      same =
+          let s = same-numbers checks (rule .verdict) in
+          (ap numberOf (rule .told) ∙ s .0, ap sideOf (rule .told) ∙ s .1, ap placeOf (rule .told) ∙ s .2)
+
+      to-answer : PairCase number side place → Are (numberOf a) (sideOf a) (placeOf a) number side place
+      to-answer c =
+          let f = from-case number side place c in
+          (same .0 ∙ f .0, same .1 ∙ f .1, same .2 ∙ f .2)
+
+      to-case : Are (numberOf a) (sideOf a) (placeOf a) number side place → PairCase number side place
+      to-case e =
+          subst (λ (x : ℕ). PairCase x side place) (sym (same .0) ∙ e .0)
+          (subst (λ (y : ℕ). PairCase (numberOf checks) y place) (sym (same .1) ∙ e .1)
+          (subst (λ (z : ℕ). PairCase (numberOf checks) (sideOf checks) z) (sym (same .2) ∙ e .2) some-case))
