@@ -1,0 +1,32 @@
+-- No second result and no second buffer meet a door's contract: both are fixed by the four numbers of its answer and by the
+-- buffer before. Assumes nothing.
+use mathlib.Core.Path.{_≡_, sym, _∙_, subst}
+use mathlib.Core.Bool.{Bool}
+use mathlib.Core.List.{List}
+use Prim.Native.Nat.{ℕ}
+use lib.IntN.{ℤ}
+use Rattle.predicate.specs.Answers.{Answer, withServed}
+use Rattle.predicate.specs.Rules.{signRule}
+use Rattle.predicate.proofs.Unique.{rule-fixed}
+use Rattle.door.specs.Numbers.{signCode, verdictCode, fourNumbers}
+use Rattle.door.specs.Buffer.{Written, VerdictWritten}
+
+-- Whatever the numbers are.
+pub written-unique : {numbers before : List ℕ} {r s : ℕ} {after after′ : List ℕ} →
+    Written numbers before r after → Written numbers before s after′ → (r ≡ s) × (after ≡ after′)
+written-unique w v = (w .gives ∙ sym (v .gives), w .leaves ∙ sym (v .leaves))
+
+-- Two results that meet the contract of `zg_turn` (n = 2) or of `zg_side` (n = 3), for the same points and the same buffer
+-- before, are equal, and so are the buffers that they leave.
+pub sign-door-unique : (n : ℕ) (points : List ℤ) (before : List ℕ) (r s : ℕ) (after after′ : List ℕ) →
+    Written (fourNumbers (withServed signCode (signRule n points))) before r after →
+    Written (fourNumbers (withServed signCode (signRule n points))) before s after′ → (r ≡ s) × (after ≡ after′)
+sign-door-unique n points before r s after after′ w v = written-unique w v
+
+-- The same of the door of a verdict call (`zg_flat` has n = 2, k = m = 3).
+pub verdict-door-unique : (n k m : ℕ) (first second : List ℤ) (before : List ℕ) (r s : ℕ) (after after′ : List ℕ) →
+    VerdictWritten n k m first second before r after → VerdictWritten n k m first second before s after′ → (r ≡ s) × (after ≡ after′)
+verdict-door-unique n k m first second before r s after after′ w v =
+    written-unique
+    (subst (λ (a : Answer Bool). Written (fourNumbers (withServed verdictCode a)) before r after) (rule-fixed (w .right) (v .right)) (w .written))
+    (v .written)

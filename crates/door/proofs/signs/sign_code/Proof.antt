@@ -1,0 +1,34 @@
+-- `door::signs::sign_code` meets its contract: each sign has the number that the rule gives it.
+-- Assumes nothing.
+use borrow.Author.Needs.{needs}
+use mathlib.Core.Path.{_≡_, sym, ap}
+use Rattle.predicate.specs.Told.{signNumber}
+use Rattle.predicate.specs.declared.answer.Sign.{Sign}
+use Rattle.door.specs.Numbers.{signCode}
+use Rattle.door.proofs.signs.sign_code.Statement.{statement}
+use Rattle.door.proofs.signs.sign_code.Tie as tie
+
+-- The number of a sign that is known.
+known : {sign is : Sign} → sign ≡ is → signCode (signNumber is) ≡ signCode (signNumber sign)
+known e = sym (ap (λ (s : Sign). signCode (signNumber s)) e)
+
+enum-told : tie.Need-enum-told
+enum-told c = search needs
+
+enum-told-2 : tie.Need-enum-told-2
+enum-told-2 c = search needs
+
+enum-told-3 : tie.Need-enum-told-3
+enum-told-3 c = search needs
+
+returns : tie.Need-returns
+returns c = known (c .enum-told .given .1)
+
+returns-2 : tie.Need-returns-2
+returns-2 c = known (c .enum-told2 .given .1)
+
+returns-3 : tie.Need-returns-3
+returns-3 c = known (c .enum-told3 .given .1)
+
+pub sign-code-spec : {M : Type 1} → statement M
+sign-code-spec = tie.close (tie.spec enum-told enum-told-2 enum-told-3 returns returns-2 returns-3)

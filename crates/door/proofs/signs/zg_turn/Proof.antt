@@ -1,0 +1,28 @@
+-- `door::signs::zg_turn` meets its contract: it writes the numbers of what the sign call tells.
+-- Assumes nothing.
+use borrow.Author.Needs.{needs}
+use Rattle.door.specs.Numbers.{signCode}
+use Rattle.door.proofs.BufferLaws.{told-right}
+use Rattle.door.proofs.signs.zg_turn.Statement.{statement}
+use Rattle.door.proofs.signs.zg_turn.Tie as tie
+
+turn-sign-requires : tie.Need-turn-sign-requires
+turn-sign-requires c κs = search needs
+
+sign-numbers-requires : tie.Need-sign-numbers-requires
+sign-numbers-requires c κs = search needs
+
+put-requires : tie.Need-put-requires
+put-requires c κs = search needs
+
+same-length : tie.Need-same-length
+same-length c = search needs
+
+returns : tie.Need-returns
+returns c =
+    let p = c .before .before in
+    told-right signCode (p .before .sign-numbers .ensures) (p .before .before .turn-sign .ensures) (p .put .ensures)
+
+pub zg-turn-spec : {M : Type 1} → statement M
+zg-turn-spec =
+    tie.close (tie.spec turn-sign-requires sign-numbers-requires put-requires same-length returns)

@@ -1,0 +1,30 @@
+-- The four numbers that a door writes for an answer: refusal number, side, place, and the value, which is 0 where the call
+-- refuses. What a call serves is given by a number of its own: `signCode` gives a sign, `verdictCode` a verdict.
+use mathlib.Core.Bool.{Bool, true, false}
+use mathlib.Core.List.{List, [], _∷_}
+use Prim.Native.Nat.{ℕ, zero, suc}
+use lib.IntN.{ℤ, pos, negsuc}
+use Rattle.predicate.specs.Answers.{Answer, served, refused, numberOf, sideOf, placeOf}
+use Rattle.door.specs.declared.numbers.Numbers.{Numbers}
+
+-- A sign, -1, 0 or 1, as 0, 1 or 2.
+abbrev pub signCode : ℤ → ℕ
+signCode (negsuc n) = 0
+signCode (pos zero) = 1
+signCode (pos (suc n)) = 2
+
+-- Apart, no, as 0; meeting, yes, as 1.
+abbrev pub verdictCode : Bool → ℕ
+verdictCode false = 0
+verdictCode true = 1
+
+abbrev pub valueOf : Answer ℕ → ℕ
+valueOf (served value) = value
+valueOf (refused number side place) = 0
+
+abbrev pub fourNumbers : Answer ℕ → List ℕ
+fourNumbers a = numberOf a ∷ sideOf a ∷ placeOf a ∷ valueOf a ∷ []
+
+-- The four numbers as the code holds them.
+abbrev pub listed : Numbers → List ℕ
+listed n = n .number ∷ n .side ∷ n .place ∷ n .value ∷ []

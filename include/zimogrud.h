@@ -1,0 +1,56 @@
+/*
+ * Zimogrud for C and C++: the exact signs of points and the flat test of two triangles, as libdoor.a has them.
+ *
+ * What goes in. Points are one list of whole numbers, point after point:
+ *
+ *     zg_turn   three points of the plane, six numbers
+ *     zg_side   four points of space, twelve numbers
+ *     zg_flat   two triangles of the plane, six numbers each
+ *
+ * Any numbers and any lengths may be given. What can't be served is refused.
+ *
+ * What comes out. Four numbers are written to the front of `answer`, and all after the fourth stay as they are:
+ *
+ *     answer[0]   the refusal number, 0 where the call serves
+ *     answer[1]   the side: 0 for the first or only list, 1 for the second; 0 where the call serves
+ *     answer[2]   the place, by the table below; 0 where the call serves
+ *     answer[3]   the value; 0 where the call refuses
+ *
+ * The result is 0; or it is 1, with `answer` untouched, where `answer` has room for fewer than four numbers. The result says
+ * nothing of a refusal: read answer[0], and answer[3] only where that is 0.
+ *
+ *     refusal   given where                                                          place
+ *     1         a number is below -524288 or above 524288                            its position in that list, from 0
+ *     2         a triangle is flat: its corners lie on one line (zg_flat only)       0
+ *     3         a list has the wrong length                                          its length
+ *
+ * Of several faults the first counts: 3, first list before second; then 1 and then 2 of the first list, and of the second.
+ *
+ * What the caller owes, which no call can see for itself. Each pointer is not null, is aligned for its type and is valid for
+ * as many numbers as the length beside it says, for reading and, at `answer`, for writing; not null and aligned also where the
+ * length is 0. `answer` overlaps none of the other lists, and nothing else writes to any of them during the call.
+ */
+#ifndef ZIMOGRUD_H
+#define ZIMOGRUD_H
+
+#include <stddef.h>
+#include <stdint.h>
+
+#ifdef __cplusplus
+extern "C" {
+#endif
+
+/* Value: how the three points turn. 0 to the right (sign -1), 1 not at all, on one line (sign 0), 2 to the left (sign 1). */
+uint32_t zg_turn(const int32_t *points, size_t points_length, uint64_t *answer, size_t answer_length);
+
+/* Value: the sign of the determinant of a - d, b - d, c - d, of the points a, b, c, d. 0 for -1, 1 for 0, 2 for 1. */
+uint32_t zg_side(const int32_t *points, size_t points_length, uint64_t *answer, size_t answer_length);
+
+/* Value: whether the two triangles have a point in common. 0 apart, 1 meeting; a touch is meeting. */
+uint32_t zg_flat(const int32_t *a, size_t a_length, const int32_t *b, size_t b_length, uint64_t *answer, size_t answer_length);
+
+#ifdef __cplusplus
+}
+#endif
+
+#endif

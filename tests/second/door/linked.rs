@@ -1,0 +1,52 @@
+//! The door of a library that is linked into this program.
+
+use super::{Function, Question, Reply, Room, MARGIN};
+
+extern "C" {
+    fn zg_turn(points: *const i32, points_len: usize, answer: *mut u64, answer_len: usize) -> u32;
+    fn zg_side(points: *const i32, points_len: usize, answer: *mut u64, answer_len: usize) -> u32;
+    fn zg_flat(a: *const i32, a_len: usize, b: *const i32, b_len: usize, answer: *mut u64, answer_len: usize) -> u32;
+}
+
+pub struct Door;
+
+impl Door {
+    pub fn open() -> Result<Door, String> {
+        Ok(Door)
+    }
+
+    pub fn ask(&mut self, questions: &[Question]) -> Result<Vec<Reply>, String> {
+        Ok(questions.iter().map(reply_to).collect())
+    }
+
+    pub fn close(self) -> Result<(), String> {
+        Ok(())
+    }
+}
+
+fn reply_to(question: &Question) -> Reply {
+    // The lists are copies reached by changing pointers, so that a forbidden write can be seen.
+    let (mut first, mut second) = (question.first.to_vec(), question.second.to_vec());
+    let (a, a_len) = (first.as_mut_ptr().cast_const(), first.len());
+    let (b, b_len) = (second.as_mut_ptr().cast_const(), second.len());
+    let mut room = question.room.clone();
+    let (answer, answer_len) = (lent_pointer(&mut room), room.lent);
+    // SAFETY: each pointer leads to as many numbers as are named, and nothing else uses them meanwhile.
+    let result = unsafe {
+        match question.function {
+            Function::Turn => zg_turn(a, a_len, answer, answer_len),
+            Function::Side => zg_side(a, a_len, answer, answer_len),
+            Function::Flat => zg_flat(a, a_len, b, b_len, answer, answer_len),
+        }
+    };
+    Reply {
+        result,
+        room,
+        lists_stayed: first == question.first && second == question.second,
+    }
+}
+
+fn lent_pointer(room: &mut Room) -> *mut u64 {
+    // Made from the whole array, so that a write into the margin can be seen afterwards.
+    room.numbers.as_mut_ptr().wrapping_add(MARGIN)
+}

@@ -1,0 +1,157 @@
+//! The door of a library for another processor, reached through the program of relay.c: questions
+//! go to its standard input and replies come from its standard output.
+//!
+//! A question is one frame, and its reply is the same frame, of the same size, as the call left
+//! it. All numbers in it are little-endian:
+//!
+//! - eight unsigned 32-bit numbers, the head: a mark; 1, 2 or 3 for turn, side or flat; the result
+//!   (any number in a question); the lengths of the first list, the second list and the room; the
+//!   position in the room where the lent answer starts, and the length of the lent answer;
+//! - the room, unsigned 64-bit numbers;
+//! - the first list and then the second, signed 32-bit numbers;
+//! - four bytes of 0 where the frame's size would not be a multiple of eight without them.
+
+use super::{Function, Question, Reply, Room, MARGIN, ROOM_NUMBERS};
+use std::io::{Read, Write};
+use std::process::{Child, ChildStdin, ChildStdout, Command, Stdio};
+
+const COMMAND_VARIABLE: &str = "ZG_RELAY";
+
+const FRAME_MARK: u32 = 0x7a67_0001;
+const HEAD_BYTES: usize = 8 * 4;
+const RESULT_AT: usize = 2 * 4;
+const LISTS_AT: usize = HEAD_BYTES + ROOM_NUMBERS * 8;
+/// Stands where the result will be: the relay has to write over it.
+const NO_RESULT: u32 = u32::MAX;
+
+pub struct Door {
+    relay: Child,
+    questions: ChildStdin,
+    replies: ChildStdout,
+}
+
+impl Door {
+    /// Starts the relay by the command that the variable ZG_RELAY holds, one word to a line.
+    pub fn open() -> Result<Door, String> {
+        let command = std::env::var(COMMAND_VARIABLE).map_err(|_| {
+            format!("the variable {COMMAND_VARIABLE} must hold the relay's command, one word to a line")
+        })?;
+        let mut words = command.lines();
+        // The relay needs no variables, and some would change what an emulator does.
+        let started = Command::new(words.next().unwrap_or_default())
+            .args(words)
+            .env_clear()
+            .stdin(Stdio::piped())
+            .stdout(Stdio::piped())
+            .spawn();
+        let mut relay = started.map_err(|error| format!("the relay {command:?} can't be started: {error}"))?;
+        match (relay.stdin.take(), relay.stdout.take()) {
+            (Some(questions), Some(replies)) => Ok(Door {
+                relay,
+                questions,
+                replies,
+            }),
+            _ => Err("the relay has no pipes".to_string()),
+        }
+    }
+
+    pub fn ask(&mut self, questions: &[Question]) -> Result<Vec<Reply>, String> {
+        let mut sent = Vec::new();
+        let ends: Vec<usize> = questions
+            .iter()
+            .map(|question| push_frame(&mut sent, question))
+            .collect();
+        let got = self.exchange(&sent)?;
+        if got.len() < sent.len() {
+            let answered = ends.iter().filter(|end| **end <= got.len()).count();
+            let status = self.status_at_end();
+            return Err(format!(
+                "the relay ended ({status}) with {answered} of {} calls answered",
+                ends.len()
+            ));
+        }
+        let starts = std::iter::once(0).chain(ends.iter().copied());
+        let frames = questions.iter().zip(starts.zip(&ends));
+        frames
+            .map(|(question, (start, &end))| read_frame(question, &sent[start..end], &got[start..end]))
+            .collect()
+    }
+
+    /// Sends all bytes and gives as many back, or fewer if the relay ends before.
+    fn exchange(&mut self, sent: &[u8]) -> Result<Vec<u8>, String> {
+        let mut got = Vec::with_capacity(sent.len());
+        let (questions, replies) = (&mut self.questions, &mut self.replies);
+        let read = std::thread::scope(|scope| {
+            // Sent from a thread of its own: the relay waits while nobody takes its replies.
+            // A relay that stops reading has ended, which the missing replies show.
+            scope.spawn(|| questions.write_all(sent));
+            replies.take(sent.len() as u64).read_to_end(&mut got)
+        });
+        match read {
+            Ok(_) => Ok(got),
+            Err(error) => Err(format!("the relay's replies can't be read: {error}")),
+        }
+    }
+
+    /// Lets the relay end, which it must do in good order and with nothing more to say.
+    pub fn close(self) -> Result<(), String> {
+        let (mut relay, mut replies, mut rest) = (self.relay, self.replies, Vec::new());
+        drop(self.questions);
+        let read = replies.read_to_end(&mut rest);
+        match (read, relay.wait()) {
+            (Ok(0), Ok(status)) if status.success() => Ok(()),
+            (Ok(extra), Ok(status)) => Err(format!("the relay ended badly ({status}, {extra} bytes too many)")),
+            (Err(error), _) | (_, Err(error)) => Err(format!("the relay's end can't be seen: {error}")),
+        }
+    }
+
+    fn status_at_end(&mut self) -> String {
+        match self.relay.wait() {
+            Ok(status) => status.to_string(),
+            Err(error) => error.to_string(),
+        }
+    }
+}
+
+/// Adds the question's frame to the bytes, and gives the place of its end.
+fn push_frame(bytes: &mut Vec<u8>, question: &Question) -> usize {
+    let (first, second, room) = (question.first, question.second, question.room);
+    let function = match question.function {
+        Function::Turn => 1,
+        Function::Side => 2,
+        Function::Flat => 3,
+    };
+    let lengths = [first.len(), second.len(), ROOM_NUMBERS, MARGIN, room.lent];
+    for number in [FRAME_MARK, function, NO_RESULT] {
+        bytes.extend(number.to_le_bytes());
+    }
+    for length in lengths {
+        bytes.extend((length as u32).to_le_bytes());
+    }
+    for number in room.numbers {
+        bytes.extend(number.to_le_bytes());
+    }
+    for number in first.iter().chain(second) {
+        bytes.extend(number.to_le_bytes());
+    }
+    // Each frame starts at a multiple of eight.
+    bytes.resize(bytes.len().next_multiple_of(8), 0);
+    bytes.len()
+}
+
+fn read_frame(question: &Question, sent: &[u8], got: &[u8]) -> Result<Reply, String> {
+    let after_result = RESULT_AT + 4;
+    if got[..RESULT_AT] != sent[..RESULT_AT] || got[after_result..HEAD_BYTES] != sent[after_result..HEAD_BYTES] {
+        return Err("a call wrote far outside all that was lent, over the head of a frame".to_string());
+    }
+    let result = u32::from_le_bytes(std::array::from_fn(|i| got[RESULT_AT + i]));
+    let number = |k: usize| u64::from_le_bytes(std::array::from_fn(|i| got[HEAD_BYTES + 8 * k + i]));
+    Ok(Reply {
+        result,
+        room: Room {
+            numbers: std::array::from_fn(number),
+            lent: question.room.lent,
+        },
+        lists_stayed: got[LISTS_AT..] == sent[LISTS_AT..],
+    })
+}

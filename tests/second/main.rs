@@ -1,0 +1,207 @@
+//! The second program: puts the bench rows of document 01 and many random inputs to the library
+//! under check, finds every answer by means of its own, and compares.
+//!
+//! Exit status: 0 no disagreement; 1 a disagreement, a failure of the calls, or a case never met;
+//! 2 bad arguments, or no way to reach the library.
+
+mod answers;
+mod bench;
+mod call;
+mod door;
+mod geometry;
+mod inputs;
+mod random;
+mod tally;
+
+use call::Call;
+use door::{Door, Question, Reply, Room, ANSWER_NUMBERS};
+use random::Random;
+use std::io::Write;
+use std::process::ExitCode;
+use std::time::{SystemTime, UNIX_EPOCH};
+use tally::{Cases, Tally};
+
+const USAGE: &str = "usage: second [--pairs N] [--seed S] [--tiny]";
+const DEFAULT_PAIRS: u64 = 1_000_000;
+/// From this many pairs on, a case that never came up is a fault of the inputs.
+const PAIRS_THAT_MEET_ALL_CASES: u64 = 100_000;
+/// This many inputs go to the door at once.
+const BATCH: u64 = 1_000;
+
+struct Settings {
+    pairs: u64,
+    seed: u64,
+    tiny: bool,
+}
+
+fn main() -> ExitCode {
+    let settings = match read_arguments(std::env::args().skip(1)) {
+        Ok(settings) => settings,
+        Err(message) => {
+            eprintln!("second: {message}; {USAGE}");
+            return ExitCode::from(2);
+        }
+    };
+    let door = match Door::open() {
+        Ok(door) => door,
+        Err(message) => {
+            eprintln!("second: {message}");
+            return ExitCode::from(2);
+        }
+    };
+    let tiny = if settings.tiny { " --tiny" } else { "" };
+    let run = format!("--pairs {} --seed {}{tiny}", settings.pairs, settings.seed);
+    say(&format!("second: {run}"));
+    match compare_all(door, &settings) {
+        Ok(last_line) => {
+            say(&format!("second: {last_line}"));
+            ExitCode::SUCCESS
+        }
+        Err(message) => {
+            say(&format!("second: {message}\n  run: second {run}"));
+            ExitCode::from(1)
+        }
+    }
+}
+
+/// A reader that stops listening must not change the exit status, so a failed write is passed over.
+fn say(line: &str) {
+    let _ = writeln!(std::io::stdout(), "{line}");
+}
+
+fn read_arguments(mut arguments: impl Iterator<Item = String>) -> Result<Settings, String> {
+    let (mut pairs, mut seed, mut tiny) = (None, None, false);
+    while let Some(name) = arguments.next() {
+        match name.as_str() {
+            "--pairs" => pairs = Some(read_number(&name, arguments.next())?),
+            "--seed" => seed = Some(read_number(&name, arguments.next())?),
+            "--tiny" => tiny = true,
+            _ => return Err(format!("unknown argument {name:?}")),
+        }
+    }
+    if pairs == Some(0) {
+        return Err("--pairs must be at least 1".to_string());
+    }
+    Ok(Settings {
+        pairs: pairs.unwrap_or(DEFAULT_PAIRS),
+        seed: seed.unwrap_or_else(seed_from_clock),
+        tiny,
+    })
+}
+
+fn read_number(name: &str, text: Option<String>) -> Result<u64, String> {
+    let text = text.ok_or_else(|| format!("{name} needs a number"))?;
+    text.parse()
+        .map_err(|_| format!("{name} needs a whole number of 0 or more, not {text:?}"))
+}
+
+fn seed_from_clock() -> u64 {
+    let since = SystemTime::now().duration_since(UNIX_EPOCH);
+    since.map_or(1, |time| time.as_nanos() as u64)
+}
+
+/// The random inputs of one call.
+struct Plan {
+    cases: Cases,
+    count: u64,
+    any_input: fn(&mut Random) -> Call,
+}
+
+fn plans(settings: &Settings) -> Vec<Plan> {
+    let plan = |cases, count, any_input| Plan {
+        cases,
+        count,
+        any_input,
+    };
+    let (pairs, quarter) = (settings.pairs, settings.pairs.div_ceil(4));
+    if settings.tiny {
+        return vec![plan(tally::FLAT, pairs, inputs::tiny_flat_pair)];
+    }
+    vec![
+        plan(tally::FLAT, pairs, inputs::any_flat_pair),
+        plan(tally::TURN, quarter, inputs::any_turn),
+        plan(tally::SIDE, quarter, inputs::any_side),
+    ]
+}
+
+fn compare_all(mut door: Door, settings: &Settings) -> Result<String, String> {
+    let rows = compare_bench(&mut door, settings.seed)?;
+    say(&format!("bench: {rows} rows compared"));
+    let mut tallies = Vec::new();
+    for (stream, plan) in (1..).zip(plans(settings)) {
+        tallies.push(compare_many(&mut door, settings.seed, stream, plan)?);
+    }
+    door.close()?;
+    tallies.iter().for_each(|tally| say(&tally.line()));
+    if settings.pairs >= PAIRS_THAT_MEET_ALL_CASES {
+        let missed: Vec<String> = tallies.iter().flat_map(|tally| tally.missed(!settings.tiny)).collect();
+        if !missed.is_empty() {
+            return Err(format!("cases never met: {}", missed.join("; ")));
+        }
+    }
+    let counts: Vec<u64> = tallies.iter().map(|tally| tally.compared).collect();
+    Ok(match counts[..] {
+        [pairs, turns, sides] => format!("{pairs} pairs, {turns} turns, {sides} sides: no disagreement"),
+        _ => format!("{} tiny pairs: no disagreement", settings.pairs),
+    })
+}
+
+/// Compares the door, and this program as well, with the fixed results.
+fn compare_bench(door: &mut Door, seed: u64) -> Result<usize, String> {
+    let mut random = Random::new(seed, 0);
+    let rows = bench::rows();
+    for row in &rows {
+        let own = row.call.own_opinion().answer;
+        if own != row.answer {
+            return Err(format!(
+                "the second program is wrong on bench row {}: {own:?}",
+                row.name
+            ));
+        }
+        let lengths = [ANSWER_NUMBERS, ANSWER_NUMBERS + 1, ANSWER_NUMBERS - 1];
+        let rooms = lengths.map(|lent| Room::with_marks(&mut random, lent));
+        let replies = ask(door, rooms.iter().map(|room| row.call.question(room)));
+        let replies = replies.map_err(|text| format!("FAILURE on bench row {}: {text}", row.name))?;
+        for (room, reply) in rooms.iter().zip(&replies) {
+            let compared = row.call.compare_door(&row.answer, room, reply);
+            compared.map_err(|text| format!("DISAGREEMENT on bench row {}: {text}", row.name))?;
+        }
+    }
+    Ok(rows.len())
+}
+
+/// Compares the random inputs of one call. The stream keeps its inputs the same whatever the
+/// other calls take, so the input of a given number depends on the seed alone.
+fn compare_many(door: &mut Door, seed: u64, stream: u64, plan: Plan) -> Result<Tally, String> {
+    let mut random = Random::new(seed, stream);
+    let mut tally = Tally::new(plan.cases);
+    while tally.compared < plan.count {
+        let size = BATCH.min(plan.count - tally.compared);
+        let any_input = |_| ((plan.any_input)(&mut random), Room::of_any_length(&mut random));
+        let inputs: Vec<(Call, Room)> = (0..size).map(any_input).collect();
+        compare_batch(door, &mut tally, &inputs)?;
+    }
+    Ok(tally)
+}
+
+/// Compares the inputs that follow those in the tally.
+fn compare_batch(door: &mut Door, tally: &mut Tally, inputs: &[(Call, Room)]) -> Result<(), String> {
+    let (before, size) = (tally.compared, inputs.len() as u64);
+    let replies = ask(door, inputs.iter().map(|(call, room)| call.question(room)));
+    let replies = replies.map_err(|text| {
+        let (name, first, last) = (tally.name(), before + 1, before + size);
+        format!("FAILURE on inputs {first} to {last} of zg_{name}: {text}")
+    })?;
+    for (number, ((call, room), reply)) in (before + 1..).zip(inputs.iter().zip(&replies)) {
+        let opinion = call.own_opinion();
+        call.compare_own(&opinion)?;
+        let compared = call.compare_door(&opinion.answer, room, reply);
+        compared.map_err(|text| format!("DISAGREEMENT on input {number} of {text}"))?;
+        tally.note(&opinion, room.is_too_short());
+    }
+    Ok(())
+}
+
+fn ask<'a>(door: &mut Door, questions: impl Iterator<Item = Question<'a>>) -> Result<Vec<Reply>, String> {
+    door.ask(&questions.collect::<Vec<_>>())
+}
