@@ -11,14 +11,15 @@ use Rattle.shape.specs.Signs.{turn}
 use Rattle.shape.specs.Sharing.{Share}
 use Rattle.shape.specs.Flat.{Flat, isZero}
 use Rattle.shape.specs.Verdicts.{Says}
-use Rattle.shape.specs.PlaneTest.{isRight, leftOrder, inLeftOrder, triangleSorted, triangleTest}
+use Rattle.shape.specs.PlaneTest.{isRight, leftOrder, inLeftOrder, triangleSorted}
 use Rattle.shape.proofs.FlatLaws.{is-flat-in-plane}
 use Rattle.shape.proofs.PlaneTest.{triangle-test}
-use Rattle.predicate.specs.Answers.{Answer, served, refused, fine, _then_}
+use Rattle.predicate.specs.Answers.{Answer, served, refused, Check, fine, _then_}
 use Rattle.predicate.specs.Grid.{limit}
-use Rattle.predicate.specs.Rules.{allOnGrid, notFlat, shapeChecks, VerdictRule}
+use Rattle.predicate.specs.Rules.{allOnGrid, notFlat, shapeChecks}
 use Rattle.predicate.specs.Told.{toldRefusal, toldPlane}
-use Rattle.predicate.specs.Vectors.{planar, planeCorners, planeTriangle, Sized, SizedTriangle, turnedOnce, ofBoth}
+use Rattle.predicate.specs.Vectors.{planar, Sized}
+use Rattle.predicate.specs.Planes.{planeCorners, planeTriangle, SizedTriangle, turnedOnce, ofBoth, secondTest, listsTest}
 use Rattle.predicate.specs.declared.answer.Refusal.{Refusal}
 use Rattle.predicate.specs.declared.plane.PlaneTriangle.{PlaneTriangle}
 use Rattle.predicate.specs.declared.plane.PlaneChecked.{PlaneChecked}
@@ -26,7 +27,6 @@ use Rattle.predicate.specs.declared.plane.PlaneChecked.the-variants.{Ord
 use Rattle.predicate.proofs.AnswerLaws.{then-refused, then-served, then-fine}
 use Rattle.predicate.proofs.CheckLaws.{fine-ready, fine-not-flat}
 use Rattle.predicate.proofs.GridLaws.{sized-point}
-use Rattle.predicate.proofs.PairLaws.{lengths, judged}
 
 -- ---- what the turn of a triangle tells: refusal 2 where it is zero, and elsewhere the left-turn order
 module _ (side : ℕ) (a b c : Point) where
@@ -106,15 +106,9 @@ module _ {side : ℕ} {l : List ℤ} {t : PlaneTriangle} (read : Read side l t) 
   pub read-fine : shapeChecks 2 3 side l ≡ fine
   read-fine = served-so .0
 
-  parts : (allOnGrid side l ≡ fine) × (notFlat 2 side 0 (pointsAt 2 3 0 l) ≡ fine)
-  parts = then-fine (allOnGrid side l) (notFlat 2 side 0 (pointsAt 2 3 0 l)) read-fine
-
-  pub read-not-flat : Flat 2 (pointsAt 2 3 0 l) → ⊥
-  read-not-flat = fine-not-flat 2 side 0 (pointsAt 2 3 0 l) (parts .1)
-
   pub read-sized : length l ≡ 6 → SizedTriangle limit t
   read-sized long =
-      let ready = fine-ready side l long (parts .0) in
+      let ready = fine-ready side l long (then-fine (allOnGrid side l) (notFlat 2 side 0 (pointsAt 2 3 0 l)) read-fine .0) in
       ordered-size (pointAt 2 0 l) (pointAt 2 2 l) (pointAt 2 4 l) t (isRight (pointAt 2 0 l) (pointAt 2 2 l) (pointAt 2 4 l)) (served-so .1)
       (sized-point ready 2 0 refl) (sized-point ready 2 2 refl) (sized-point ready 2 4 refl)
 
@@ -123,16 +117,27 @@ module _ {side : ℕ} {l : List ℤ} {t : PlaneTriangle} (read : Read side l t) 
   read-test test =
       ordered-test (pointAt 2 0 l) (pointAt 2 2 l) (pointAt 2 4 l) t test (isRight (pointAt 2 0 l) (pointAt 2 2 l) (pointAt 2 4 l)) (served-so .1)
 
--- The verdict on two such triangles.
-pub flat-judged : (first second : List ℤ) (t u : PlaneTriangle) → lengths 2 3 3 first second ≡ fine → Read 0 first t → Read 1 second u →
-    (v : Bool) → v ≡ ofBoth triangleSorted t u → VerdictRule 2 3 3 first second (served v)
-flat-judged first second t u e f g v h =
-    judged 2 3 3 first second v e (read-fine f) (read-fine g)
-    (subst (λ (w : Bool). Says w (Share 2 (pointsAt 2 3 0 first) (pointsAt 2 3 0 second))) (sym (h ∙ both))
-    (triangle-test _ _ _ _ _ _ (read-not-flat f) (read-not-flat g)))
+-- ---- the verdict
+-- The second list was read as u, and v is the test of t and u.
+pub second-judged : {l : List ℤ} {u : PlaneTriangle} {v : Bool} (t : PlaneTriangle) → Read 1 l u → v ≡ ofBoth triangleSorted t u →
+    served v ≡ (shapeChecks 2 3 1 l then served (secondTest t l))
+second-judged {l} t read e =
+    ap served (e ∙ read-test read (triangleSorted (planar (t .p)) (planar (t .q)) (planar (t .r))))
+    ∙ sym (ap (λ (x : Check). x then served (secondTest t l)) (read-fine read))
+
+-- The first list was read as t: the test of t and the second list is that of the two lists.
+pub lists-judged : {l : List ℤ} {t : PlaneTriangle} {a : Answer Bool} (m : List ℤ) → Read 0 l t → a ≡ (shapeChecks 2 3 1 m then served (secondTest t m)) →
+    a ≡ ((shapeChecks 2 3 0 l then shapeChecks 2 3 1 m) then served (listsTest l m))
+lists-judged {l} m read e =
+    e ∙ ap (λ (v : Bool). shapeChecks 2 3 1 m then served v)
+    (read-test read (λ a b c. inLeftOrder (triangleSorted a b c) (pointAt 2 0 m) (pointAt 2 2 m) (pointAt 2 4 m)))
+    ∙ sym (ap (λ (x : Check). (x then shapeChecks 2 3 1 m) then served (listsTest l m)) (read-fine read))
+
+-- Where the checks find nothing, the test of the two lists is right: by the theorem of crate `shape`.
+pub lists-right : (l m : List ℤ) → shapeChecks 2 3 0 l ≡ fine → shapeChecks 2 3 1 m ≡ fine →
+    Says (listsTest l m) (Share 2 (pointsAt 2 3 0 l) (pointsAt 2 3 0 m))
+lists-right l m e f = triangle-test _ _ _ _ _ _ (not-flat 0 l e) (not-flat 1 m f)
   where
-    both : ofBoth triangleSorted t u ≡
-        triangleTest (pointAt 2 0 first) (pointAt 2 2 first) (pointAt 2 4 first) (pointAt 2 0 second) (pointAt 2 2 second) (pointAt 2 4 second)
-    both =
-        read-test g (triangleSorted (planar (t .p)) (planar (t .q)) (planar (t .r)))
-        ∙ read-test f (λ a b c. inLeftOrder (triangleSorted a b c) (pointAt 2 0 second) (pointAt 2 2 second) (pointAt 2 4 second))
+    not-flat : (side : ℕ) (l : List ℤ) → shapeChecks 2 3 side l ≡ fine → Flat 2 (pointsAt 2 3 0 l) → ⊥
+    not-flat side l e =
+        fine-not-flat 2 side 0 (pointsAt 2 3 0 l) (then-fine (allOnGrid side l) (notFlat 2 side 0 (pointsAt 2 3 0 l)) e .1)

@@ -16,7 +16,7 @@ use Rattle.predicate.specs.declared.grid.Checked.{Checked}
 use Rattle.predicate.specs.declared.grid.Checked.the-variants.{Fine, Refused as CheckRefused}
 use Rattle.predicate.specs.declared.plane.PlaneChecked.{PlaneChecked}
 use Rattle.predicate.specs.declared.plane.PlaneChecked.the-variants.{Ordered, Refused as PlaneRefused}
-use Rattle.predicate.specs.Vectors.{planeCorners}
+use Rattle.predicate.specs.Planes.{planeCorners}
 
 -- A sign is -1, 0 or 1.
 abbrev pub signNumber : Sign → ℤ

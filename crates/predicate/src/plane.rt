@@ -11,12 +11,13 @@ use crate::grid::grid_checked;
 ghost use mathlib.Core.Path.{_≡_};
 ghost use mathlib.Core.List.{[], _∷_};
 ghost use lib.ListN.{length};
-ghost use Rattle.shape.specs.PlaneTest.{isRight, leftOrder, cornerIn, lastEdges, trianglePastOne, trianglePastTwo, triangleSorted};
+ghost use Rattle.shape.specs.PlaneTest.{isRight, leftOrder, cornerIn, lastEdges, trianglePastOne, trianglePastTwo, trianglePast, triangleSorted};
 ghost use Rattle.predicate.specs.Answers.{served, _then_};
 ghost use Rattle.predicate.specs.Grid.{limit};
 ghost use Rattle.predicate.specs.Rules.{notFlat};
 ghost use Rattle.predicate.specs.Told.{toldPlane};
-ghost use Rattle.predicate.specs.Vectors.{planar, planeTriangle, turnedOnce, ofBoth, Sized, SizedTriangle};
+ghost use Rattle.predicate.specs.Vectors.{planar, Sized};
+ghost use Rattle.predicate.specs.Planes.{planeTriangle, turnedOnce, ofBoth, SizedTriangle};
 
 // A triangle of the plane.
 pub struct PlaneTriangle {
@@ -152,6 +153,21 @@ fn turned(t: PlaneTriangle) -> PlaneTriangle
     PlaneTriangle { p: q, q: r, r: p }
 }
 
+// p1 is strictly right of p2 → q2: its other two signs.
+fn past_first(first: PlaneTriangle, second: PlaneTriangle) -> bool
+    requires { ⌜ SizedTriangle limit first × SizedTriangle limit second ⌝ }
+    ensures { λ r. ⌜ r ≡ ofBoth trianglePast first second ⌝ }
+{
+    let once = turned(second);
+    if right_of(second.q, second.r, first.p) {
+        return past_two(first, turned(once));
+    }
+    if right_of(second.r, second.p, first.p) {
+        return past_two(first, once);
+    }
+    past_one(first, once)
+}
+
 // Whether two triangles in left-turn order have a point in common: p1 is sorted by its signs against the edges of the second,
 // which is turned so that the edges that p1 is strictly right of come last.
 pub fn planes_meet(first: PlaneTriangle, second: PlaneTriangle) -> bool
@@ -159,13 +175,7 @@ pub fn planes_meet(first: PlaneTriangle, second: PlaneTriangle) -> bool
     ensures { λ r. ⌜ r ≡ ofBoth triangleSorted first second ⌝ }
 {
     if right_of(second.p, second.q, first.p) {
-        if right_of(second.q, second.r, first.p) {
-            return past_two(first, turned(turned(second)));
-        }
-        if right_of(second.r, second.p, first.p) {
-            return past_two(first, turned(second));
-        }
-        return past_one(first, turned(second));
+        return past_first(first, second);
     }
     if right_of(second.q, second.r, first.p) {
         if right_of(second.r, second.p, first.p) {

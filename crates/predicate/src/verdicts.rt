@@ -7,9 +7,12 @@ use crate::plane::PlaneTriangle;
 use crate::plane::plane_triangle;
 use crate::plane::planes_meet;
 ghost use mathlib.Core.Path.{_≡_};
-ghost use Rattle.predicate.specs.Answers.{_then_};
-ghost use Rattle.predicate.specs.Rules.{rightLength, VerdictRule};
+ghost use lib.ListN.{length};
+ghost use Rattle.predicate.specs.Answers.{served, _then_};
+ghost use Rattle.predicate.specs.Grid.{limit};
+ghost use Rattle.predicate.specs.Rules.{rightLength, shapeChecks, VerdictRule};
 ghost use Rattle.predicate.specs.Told.{toldCheck, toldVerdict};
+ghost use Rattle.predicate.specs.Planes.{SizedTriangle, secondTest, listsTest};
 
 // Refusal 3 of two lists that are to hold k and m numbers: the first, then the second.
 fn lengths_checked(k: usize, first: &[i32], m: usize, second: &[i32]) -> Checked
@@ -21,24 +24,40 @@ fn lengths_checked(k: usize, first: &[i32], m: usize, second: &[i32]) -> Checked
     }
 }
 
+// A triangle in left-turn order, and the triangle of the second list.
+fn second_verdict(first: PlaneTriangle, second: &[i32]) -> VerdictAnswer
+    requires { ⌜ SizedTriangle limit first × (length (now second) ≡ 6) ⌝ }
+    ensures { λ r. ⌜ toldVerdict r ≡ shapeChecks 2 3 1 (now (second .entry)) then served (secondTest first (now (second .entry))) ⌝ }
+{
+    match plane_triangle(1, second) {
+        PlaneChecked::Refused(why) => VerdictAnswer::Refused(why),
+        PlaneChecked::Ordered(u) => {
+            if planes_meet(first, u) {
+                VerdictAnswer::Meeting
+            } else {
+                VerdictAnswer::Apart
+            }
+        }
+    }
+}
+
+// The triangles of two lists of six numbers.
+fn triangles_verdict(first: &[i32], second: &[i32]) -> VerdictAnswer
+    requires { ⌜ (length (now first) ≡ 6) × (length (now second) ≡ 6) ⌝ }
+    ensures { λ r. ⌜ toldVerdict r ≡ (shapeChecks 2 3 0 (now (first .entry)) then shapeChecks 2 3 1 (now (second .entry))) then served (listsTest (now (first .entry)) (now (second .entry))) ⌝ }
+{
+    match plane_triangle(0, first) {
+        PlaneChecked::Refused(why) => VerdictAnswer::Refused(why),
+        PlaneChecked::Ordered(t) => second_verdict(t, second),
+    }
+}
+
 // Two triangles in the plane, six numbers each.
 pub fn flat_verdict(first: &[i32], second: &[i32]) -> VerdictAnswer
     ensures { λ r. ⌜ VerdictRule 2 3 3 (now (first .entry)) (now (second .entry)) (toldVerdict r) ⌝ }
 {
     match lengths_checked(6, first, 6, second) {
         Checked::Refused(why) => VerdictAnswer::Refused(why),
-        Checked::Fine => match plane_triangle(0, first) {
-            PlaneChecked::Refused(why) => VerdictAnswer::Refused(why),
-            PlaneChecked::Ordered(t) => match plane_triangle(1, second) {
-                PlaneChecked::Refused(why) => VerdictAnswer::Refused(why),
-                PlaneChecked::Ordered(u) => {
-                    if planes_meet(t, u) {
-                        VerdictAnswer::Meeting
-                    } else {
-                        VerdictAnswer::Apart
-                    }
-                }
-            },
-        },
+        Checked::Fine => triangles_verdict(first, second),
     }
 }

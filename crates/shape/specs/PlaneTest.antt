@@ -23,10 +23,13 @@ inLeftOrder test a b c = cond (isRight a b c) (test a c b) (test a b c)
 
 -- The point p sorted by its signs against the edges of the triangle a b c, which turns left. Strictly right of no edge, p is in
 -- the triangle: yes. Right of one edge or of two (never of three), the triangle is turned so that they come last.
+abbrev pub sortedPast : Point → (pastOne pastTwo : Point → Point → Point → Bool) → Point → Point → Point → Bool
+sortedPast p pastOne pastTwo a b c =
+    cond (isRight b c p) (pastTwo c a b) (cond (isRight c a p) (pastTwo b c a) (pastOne b c a))
+
 abbrev pub sorted : Point → (pastOne pastTwo : Point → Point → Point → Bool) → Point → Point → Point → Bool
 sorted p pastOne pastTwo a b c =
-    cond (isRight a b p)
-    (cond (isRight b c p) (pastTwo c a b) (cond (isRight c a p) (pastTwo b c a) (pastOne b c a)))
+    cond (isRight a b p) (sortedPast p pastOne pastTwo a b c)
     (cond (isRight b c p)
     (cond (isRight c a p) (pastTwo a b c) (pastOne c a b))
     (cond (isRight c a p) (pastOne a b c) true))
@@ -62,7 +65,10 @@ trianglePastTwo p1 q1 r1 p2 q2 r2 =
     (cond (isRight p1 p2 q1) (cornerIn p1 q1 r1 p2)
     (cond (isRight q2 p1 q1) false true)))
 
--- p1 sorted by its signs.
+-- p1 sorted by its signs: where it is right of p2 → q2, and wherever it is.
+abbrev pub trianglePast : (p1 q1 r1 p2 q2 r2 : Point) → Bool
+trianglePast p1 q1 r1 = sortedPast p1 (trianglePastOne p1 q1 r1) (trianglePastTwo p1 q1 r1)
+
 abbrev pub triangleSorted : (p1 q1 r1 p2 q2 r2 : Point) → Bool
 triangleSorted p1 q1 r1 = sorted p1 (trianglePastOne p1 q1 r1) (trianglePastTwo p1 q1 r1)
 
