@@ -10,14 +10,6 @@ use Rattle.predicate.specs.declared.answer.Refusal.{Refusal}
 pub served-not-refused : {A : Type 0} (a : A) (why : Refusal) → _≡_ {A = Answer A} (served a) (toldRefusal why) → ⊥
 served-not-refused a why e = let z : _≡_ {A = ℕ} 0 1 = cc in omega arith
 
--- A refusal is fixed by what it tells.
-pub refusal-fixed : {A : Type 0} (why why′ : Refusal) → _≡_ {A = Answer A} (toldRefusal why) (toldRefusal why′) → why ≡ why′
-refusal-fixed why why′ e =
-    let number : why .number ≡ why′ .number = cc in
-    let side : why .side ≡ why′ .side = cc in
-    let place : why .place ≡ why′ .place = cc in
-    λ i. record { number = number i; side = side i; place = place i }
-
 -- What follows two checks taken together follows them one by one.
 pub then-assoc : {A : Type 0} (x y : Check) (a : Answer A) → ((x then y) then a) ≡ (x then (y then a))
 then-assoc (served u) y a = refl

@@ -38,27 +38,27 @@ module _ (n k m : ℕ) (first second : List ℤ) where
     none : length first ≡ k * n → length second ≡ m * n → OnGrid first → (Flat n P → ⊥) →
         OnGrid second → (Flat n Q → ⊥) → Are number side place 0 0 0 → PairCase number side place
 
-  -- ---- what each check finds makes what they find together
+  -- ---- the six checks, and what they find together
   abbrev together : (a b c d e f : Check) → Check
   together a b c d e f = a then b then (c then d) then (e then f)
 
-  abbrev one : Check
-  one = rightLength 0 (k * n) first
+  abbrev first-long : Check
+  first-long = rightLength 0 (k * n) first
 
-  abbrev two : Check
-  two = rightLength 1 (m * n) second
+  abbrev second-long : Check
+  second-long = rightLength 1 (m * n) second
 
-  abbrev three : Check
-  three = allOnGrid 0 first
+  abbrev first-on : Check
+  first-on = allOnGrid 0 first
 
-  abbrev four : Check
-  four = notFlat n 0 0 P
+  abbrev first-not-flat : Check
+  first-not-flat = notFlat n 0 0 P
 
-  abbrev five : Check
-  five = allOnGrid 1 second
+  abbrev second-on : Check
+  second-on = allOnGrid 1 second
 
-  abbrev six : Check
-  six = notFlat n 1 0 Q
+  abbrev second-not-flat : Check
+  second-not-flat = notFlat n 1 0 Q
 
   abbrev checks : Check
   checks = pairChecks n k m first second
@@ -75,29 +75,29 @@ module _ (n k m : ℕ) (first second : List ℤ) where
   from-case : (number side place : ℕ) → PairCase number side place → Finds checks number side place
   from-case number side place (first-length h a) =
       let e = not-long-refused 0 (k * n) first h in
-      finds (refused 3 0 (length first)) 3 0 (length first) (λ i. together (e i) two three four five six) (refl, refl, refl) number side place a
+      finds (refused 3 0 (length first)) 3 0 (length first) (λ i. together (e i) second-long first-on first-not-flat second-on second-not-flat) (refl, refl, refl) number side place a
   from-case number side place (second-length l h a) =
       let d = long-fine 0 (k * n) first l in
       let e = not-long-refused 1 (m * n) second h in
-      finds (refused 3 1 (length second)) 3 1 (length second) (λ i. together (d i) (e i) three four five six) (refl, refl, refl) number side place a
+      finds (refused 3 1 (length second)) 3 1 (length second) (λ i. together (d i) (e i) first-on first-not-flat second-on second-not-flat) (refl, refl, refl) number side place a
   from-case number side place (first-off l l′ low a) =
       let d = long-fine 0 (k * n) first l in
       let e = long-fine 1 (m * n) second l′ in
       let f = off-refused 0 place first low in
-      finds (refused 1 0 place) 1 0 place (λ i. together (d i) (e i) (f i) four five six) (refl, refl, refl) number side place a
+      finds (refused 1 0 place) 1 0 place (λ i. together (d i) (e i) (f i) first-not-flat second-on second-not-flat) (refl, refl, refl) number side place a
   from-case number side place (first-flat l l′ on h a) =
       let d = long-fine 0 (k * n) first l in
       let e = long-fine 1 (m * n) second l′ in
       let f = on-fine 0 first on in
       let g = flat-refused n 0 0 P h in
-      finds (refused 2 0 0) 2 0 0 (λ i. together (d i) (e i) (f i) (g i) five six) (refl, refl, refl) number side place a
+      finds (refused 2 0 0) 2 0 0 (λ i. together (d i) (e i) (f i) (g i) second-on second-not-flat) (refl, refl, refl) number side place a
   from-case number side place (second-off l l′ on h low a) =
       let d = long-fine 0 (k * n) first l in
       let e = long-fine 1 (m * n) second l′ in
       let f = on-fine 0 first on in
       let g = not-flat-fine n 0 0 P h in
       let f′ = off-refused 1 place second low in
-      finds (refused 1 1 place) 1 1 place (λ i. together (d i) (e i) (f i) (g i) (f′ i) six) (refl, refl, refl) number side place a
+      finds (refused 1 1 place) 1 1 place (λ i. together (d i) (e i) (f i) (g i) (f′ i) second-not-flat) (refl, refl, refl) number side place a
   from-case number side place (second-flat l l′ on h on′ h′ a) =
       let d = long-fine 0 (k * n) first l in
       let e = long-fine 1 (m * n) second l′ in

@@ -3,8 +3,8 @@
 use mathlib.Core.Path.{_≡_, refl, sym, _∙_, ap, subst}
 use mathlib.Core.Bool.{Bool, true, false, cond}
 use mathlib.Core.List.{List, [], _∷_}
-use Prim.Native.Nat.{ℕ, zero, suc}
-use lib.IntN.{ℤ, pos, negsuc}
+use Prim.Native.Nat.{ℕ}
+use lib.IntN.{ℤ, pos}
 use lib.ListN.{length}
 use Rattle.shape.specs.Points.{Point, Shape, pointAt, pointsAt}
 use Rattle.shape.specs.Signs.{turn}
@@ -12,7 +12,8 @@ use Rattle.shape.specs.Sharing.{Share}
 use Rattle.shape.specs.Flat.{Flat, isZero}
 use Rattle.shape.specs.Verdicts.{Says}
 use Rattle.shape.specs.PlaneTest.{isRight, leftOrder, inLeftOrder, triangleSorted}
-use Rattle.shape.proofs.FlatLaws.{is-flat-in-plane}
+use Rattle.shape.proofs.FlatLaws.{zero-says, is-flat-in-plane}
+use Rattle.shape.proofs.VerdictLaws.{says-no, says-fixed}
 use Rattle.shape.proofs.PlaneTest.{triangle-test}
 use Rattle.predicate.specs.Answers.{Answer, served, refused, Check, fine, _then_}
 use Rattle.predicate.specs.Grid.{limit}
@@ -40,19 +41,17 @@ module _ (side : ℕ) (a b c : Point) where
   with-tests : {flat right : Bool} → isZero (turn a b c) ≡ flat → isRight a b c ≡ right → by-tests flat right ≡ right-answer
   with-tests e f = sym (λ i. by-tests ((is-flat-in-plane a b c ∙ e) i) (f i))
 
-  not-zero : (z : ℤ) → (z ≡ pos 0 → ⊥) → isZero z ≡ false
-  not-zero (pos zero) h = absurd (h refl)
-  not-zero (pos (suc n)) h = refl
-  not-zero (negsuc n) h = refl
+  not-zero : (turn a b c ≡ pos 0 → ⊥) → isZero (turn a b c) ≡ false
+  not-zero h = says-fixed (zero-says (turn a b c)) (says-no h)
 
   pub no-turn : turn a b c ≡ pos 0 → refused 2 side 0 ≡ right-answer
   no-turn e = with-tests (ap isZero e) refl
 
   pub turns-right : (turn a b c ≡ pos 0 → ⊥) → isRight a b c ≡ true → served (a ∷ c ∷ b ∷ []) ≡ right-answer
-  turns-right h f = with-tests (not-zero (turn a b c) h) f
+  turns-right h f = with-tests (not-zero h) f
 
   pub turns-left : (turn a b c ≡ pos 0 → ⊥) → isRight a b c ≡ false → served (a ∷ b ∷ c ∷ []) ≡ right-answer
-  turns-left h f = with-tests (not-zero (turn a b c) h) f
+  turns-left h f = with-tests (not-zero h) f
 
 -- ---- the corners of a turned triangle are no larger
 pub sized-turned : {n : ℕ} {t u : PlaneTriangle} → u ≡ turnedOnce t → SizedTriangle n t → SizedTriangle n u

@@ -10,6 +10,7 @@ use Rattle.shape.proofs.VerdictLaws.{says-fixed}
 use Rattle.predicate.specs.Answers.{Answer, served, refused, Check, fine, _then_}
 use Rattle.predicate.specs.Rules.{valueRule, signRule, pairChecks, VerdictRule}
 use Rattle.predicate.specs.Told.{signNumber, toldSign, toldValue, toldVerdict}
+use Rattle.predicate.specs.declared.answer.Refusal.{Refusal}
 use Rattle.predicate.specs.declared.answer.Sign.{Sign}
 use Rattle.predicate.specs.declared.answer.Sign.the-variants.{Negative, Zero, Positive}
 use Rattle.predicate.specs.declared.answer.SignAnswer.{SignAnswer}
@@ -18,7 +19,6 @@ use Rattle.predicate.specs.declared.answer.ValueAnswer.{ValueAnswer}
 use Rattle.predicate.specs.declared.answer.ValueAnswer.the-variants.{Valued, Refused as ValueRefused}
 use Rattle.predicate.specs.declared.answer.VerdictAnswer.{VerdictAnswer}
 use Rattle.predicate.specs.declared.answer.VerdictAnswer.the-variants.{Meeting, Apart, Refused as VerdictRefused}
-use Rattle.predicate.proofs.AnswerLaws.{served-not-refused, refusal-fixed}
 
 -- ---- the same sign: a sign is read back off its number
 signBack : ℤ → Sign
@@ -32,33 +32,54 @@ sign-back Negative = refl
 sign-back Zero = refl
 sign-back Positive = refl
 
-sign-fixed : (a b : Sign) → signNumber a ≡ signNumber b → a ≡ b
-sign-fixed a b e = sym (sign-back a) ∙ ap signBack e ∙ sign-back b
+-- ---- each answer is read back off what it tells
+refusalBack : ℕ → ℕ → ℕ → Refusal
+refusalBack number side place = record { number = number; side = side; place = place }
 
--- ---- the answers
-sign-answer-fixed : (r s : SignAnswer) → toldSign r ≡ toldSign s → r ≡ s
-sign-answer-fixed (Signed a) (Signed b) e = let z : signNumber a ≡ signNumber b = cc in ap Signed (sign-fixed a b z)
-sign-answer-fixed (Signed a) (SignRefused why) e = absurd (served-not-refused (signNumber a) why e)
-sign-answer-fixed (SignRefused why) (Signed b) e = absurd (served-not-refused (signNumber b) why (sym e))
-sign-answer-fixed (SignRefused why) (SignRefused why′) e = ap SignRefused (refusal-fixed why why′ e)
+signAnswerBack : Answer ℤ → SignAnswer
+signAnswerBack (served z) = Signed (signBack z)
+signAnswerBack (refused number side place) = SignRefused (refusalBack number side place)
 
-value-answer-fixed : (r s : ValueAnswer) → toldValue r ≡ toldValue s → r ≡ s
-value-answer-fixed (Valued y) (Valued z) e = cc
-value-answer-fixed (Valued y) (ValueRefused why) e = absurd (served-not-refused y why e)
-value-answer-fixed (ValueRefused why) (Valued z) e = absurd (served-not-refused z why (sym e))
-value-answer-fixed (ValueRefused why) (ValueRefused why′) e = ap ValueRefused (refusal-fixed why why′ e)
+sign-answer-back : (r : SignAnswer) → signAnswerBack (toldSign r) ≡ r
+unfolding signAnswerBack refusalBack
+sign-answer-back (Signed a) = ap Signed (sign-back a)
+sign-answer-back (SignRefused why) = refl
 
+valueBack : Answer ℤ → ValueAnswer
+valueBack (served z) = Valued z
+valueBack (refused number side place) = ValueRefused (refusalBack number side place)
+
+value-back : (r : ValueAnswer) → valueBack (toldValue r) ≡ r
+unfolding valueBack refusalBack
+value-back (Valued z) = refl
+value-back (ValueRefused why) = refl
+
+verdictBack : Answer Bool → VerdictAnswer
+verdictBack (served true) = Meeting
+verdictBack (served false) = Apart
+verdictBack (refused number side place) = VerdictRefused (refusalBack number side place)
+
+verdict-back : (r : VerdictAnswer) → verdictBack (toldVerdict r) ≡ r
+unfolding verdictBack refusalBack
+verdict-back Meeting = refl
+verdict-back Apart = refl
+verdict-back (VerdictRefused why) = refl
+
+-- So two answers that tell the same are equal.
+told-fixed : {A R : Type 0} (told : R → A) (back : A → R) → ((r : R) → back (told r) ≡ r) → (r s : R) → told r ≡ told s → r ≡ s
+told-fixed told back is-back r s e = sym (is-back r) ∙ ap back e ∙ is-back s
+
+-- ---- no second answer
 -- Two answers that meet the contract of `turn_sign` (n = 2) or of `side_sign` (n = 3) are equal.
 pub sign-unique : (n : ℕ) (numbers : List ℤ) (r s : SignAnswer) → toldSign r ≡ signRule n numbers → toldSign s ≡ signRule n numbers → r ≡ s
-sign-unique n numbers r s e e′ = sign-answer-fixed r s (e ∙ sym e′)
+sign-unique n numbers r s e e′ = told-fixed toldSign signAnswerBack sign-answer-back r s (e ∙ sym e′)
 
 -- Two answers that meet the contract of `turn_value` (n = 2) or of `side_value` (n = 3) are equal.
 pub value-unique : (n : ℕ) (numbers : List ℤ) (r s : ValueAnswer) →
     toldValue r ≡ valueRule n numbers → toldValue s ≡ valueRule n numbers → r ≡ s
-value-unique n numbers r s e e′ = value-answer-fixed r s (e ∙ sym e′)
+value-unique n numbers r s e e′ = told-fixed toldValue valueBack value-back r s (e ∙ sym e′)
 
--- ---- the verdict calls
--- One answer at most is right.
+-- One answer at most is right of a verdict call.
 pub rule-fixed : {n k m : ℕ} {first second : List ℤ} {a b : Answer Bool} → VerdictRule n k m first second a → VerdictRule n k m first second b → a ≡ b
 rule-fixed {n} {k} {m} {first} {second} r s = r .told ∙ same (pairChecks n k m first second) (r .right) (s .right) ∙ sym (s .told)
   where
@@ -66,19 +87,7 @@ rule-fixed {n} {k} {m} {first} {second} r s = r .told ∙ same (pairChecks n k m
     same (served u) f g = ap served (says-fixed (f refl) (g refl))
     same (refused number side place) f g = refl
 
--- A verdict is read back off what it tells.
-verdictBack : Answer Bool → VerdictAnswer
-verdictBack (served true) = Meeting
-verdictBack (served false) = Apart
-verdictBack (refused number side place) = VerdictRefused (record { number = number; side = side; place = place })
-
-verdict-back : (r : VerdictAnswer) → verdictBack (toldVerdict r) ≡ r
-unfolding verdictBack
-verdict-back Meeting = refl
-verdict-back Apart = refl
-verdict-back (VerdictRefused why) = refl
-
 -- Two answers that meet the contract of a verdict call (`flat_verdict` has n = 2, k = m = 3) are equal.
 pub verdict-unique : {n k m : ℕ} {first second : List ℤ} (r s : VerdictAnswer) →
     VerdictRule n k m first second (toldVerdict r) → VerdictRule n k m first second (toldVerdict s) → r ≡ s
-verdict-unique r s e e′ = sym (verdict-back r) ∙ ap verdictBack (rule-fixed e e′) ∙ verdict-back s
+verdict-unique r s e e′ = told-fixed toldVerdict verdictBack verdict-back r s (rule-fixed e e′)

@@ -1,5 +1,5 @@
--- Which side of a line a point lies on, and the certificate behind every "no" of the tests in the plane: one shape lies
--- strictly right of a line that the other is nowhere strictly right of. Assumes nothing.
+-- Which side of a line a point lies on, how that carries over from one point to others, and the certificate behind every "no" of
+-- the tests in the plane: one shape lies strictly right of a line that the other is nowhere strictly right of. Assumes nothing.
 use mathlib.Core.Path.{refl}
 use mathlib.Core.List.{List, [], _∷_}
 use native.Mathlib.Omega.{arith}
@@ -8,7 +8,7 @@ use lib.Signed.{_≤ℤ_, _<ℤ_}
 use Prim.Native.Nat.{ℕ}
 use Rattle.algebra.proofs.Expression.{Ex, _⊞_, _⊟_, _⊠_}
 use Rattle.algebra.proofs.Order.{weak}
-use Rattle.algebra.proofs.Certificate.{Rel, _≦_, _≺_, hyp, num, prove≤, prove<}
+use Rattle.algebra.proofs.Certificate.{Rel, _≦_, _≺_, hyp, num, _⊕_, _⊗_, prove≤, prove<}
 use Rattle.shape.specs.Points.{Point, Shape, coord}
 use Rattle.shape.specs.Signs.{turn}
 use Rattle.shape.specs.Sharing.{Share}
@@ -67,6 +67,47 @@ module _ (a b c : Point) where
 
   pub not-right-mirrored : NotRight a b c → NotLeft a c b
   not-right-mirrored = prove≤ three (notRightE 0 1 2 ∷ []) (turnE 0 2 1) O (num 1) (hyp 0) tt tt refl
+
+-- ---- u → v leaves the right side of the line x → y
+module _ (x y u v : Point) (past : Right x y u) (back : NotRight x y v) where
+  abbrev four : List ℤ
+  four = values (x ∷ y ∷ u ∷ v ∷ [])
+
+  -- Where x is right of u → v, so is y;
+  pub right-carries : Right u v x → Right u v y
+  right-carries =
+      prove< four (rightE 0 1 2 ∷ notRightE 0 1 3 ∷ rightE 2 3 0 ∷ []) (turnE 2 3 1) O (num 1) (hyp 0 ⊕ hyp 1 ⊕ hyp 2) tt tt refl past back
+
+  -- and where y is right of v → u, so is x.
+  pub left-carries : Right v u y → Right v u x
+  left-carries =
+      prove< four (rightE 0 1 2 ∷ notRightE 0 1 3 ∷ rightE 3 2 1 ∷ []) (turnE 3 2 0) O (num 1) (hyp 0 ⊕ hyp 1 ⊕ hyp 2) tt tt refl past back
+
+-- The line is the edge c → a of a triangle that turns left. All of the triangle is right of u → v where c is and u is not past
+-- the edge b → c; all of it is left, that is, right of v → u, where a is and u is not past the edge a → b.
+module _ (u v a b c : Point) (left : Left a b c) (past : Right c a u) (back : NotRight c a v) where
+  abbrev five : List ℤ
+  five = values (u ∷ v ∷ a ∷ b ∷ c ∷ [])
+
+  pub all-right : NotRight b c u → Right u v c → Every (Right u v) (a ∷ b ∷ c ∷ [])
+  all-right other h = (
+    right-carries c a u v past back h,
+    (
+      prove< five (leftE 2 3 4 ∷ notRightE 3 4 0 ∷ rightE 4 2 0 ∷ notRightE 4 2 1 ∷ rightE 0 1 4 ∷ []) (turnE 0 1 3) O
+          (hyp 2) (hyp 0 ⊗ hyp 4 ⊕ hyp 1 ⊗ hyp 2 ⊕ hyp 1 ⊗ hyp 3 ⊕ hyp 2 ⊗ hyp 4) tt tt refl left other past back h,
+      (h, tt),
+    ),
+  )
+
+  pub all-left : NotRight a b u → Right v u a → Every (Right v u) (a ∷ b ∷ c ∷ [])
+  all-left other h = (
+    h,
+    (
+      prove< five (leftE 2 3 4 ∷ notRightE 2 3 0 ∷ rightE 4 2 0 ∷ notRightE 4 2 1 ∷ rightE 1 0 2 ∷ []) (turnE 1 0 3) O
+          (hyp 2) (hyp 0 ⊗ hyp 4 ⊕ hyp 1 ⊗ hyp 2 ⊕ hyp 1 ⊗ hyp 3 ⊕ hyp 2 ⊗ hyp 4) tt tt refl left other past back h,
+      (left-carries c a u v past back h, tt),
+    ),
+  )
 
 -- ---- apart by a line
 -- No corner of P lies strictly right of a → b, every corner of Q does: no common point.

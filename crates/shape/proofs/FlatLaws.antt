@@ -1,5 +1,5 @@
 -- Flat triangles told by determinants: in the plane exactly those whose turn is zero, in space those whose turns seen in y
--- and z, z and x, x and y are all zero. Assumes nothing.
+-- and z, z and x, x and y are all zero. And the test `isFlat`, which tells the flat shapes. Assumes nothing.
 use mathlib.Core.Path.{_≡_, refl, sym, _∙_, ap, subst}
 use mathlib.Core.Bool.{Bool, true, false, cond}
 use mathlib.Core.List.{[], _∷_}
@@ -74,7 +74,7 @@ flat-in-space a b c =
     each e i (suc (suc (suc j))) l m = absurd (omega arith)
 
 -- ---- the test that computes
-zero-says : (z : ℤ) → Says (isZero z) (z ≡ pos 0)
+pub zero-says : (z : ℤ) → Says (isZero z) (z ≡ pos 0)
 zero-says (pos zero) = says-yes refl
 zero-says (pos (suc n)) = says-no (λ e. let y : _≡_ {A = ℕ} (suc n) 0 = cc in omega arith)
 zero-says (negsuc n) = says-no (λ e. let y : _≡_ {A = ℕ} 0 1 = cc in omega arith)

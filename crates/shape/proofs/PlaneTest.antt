@@ -4,7 +4,7 @@
 use mathlib.Core.Path.{refl}
 use mathlib.Core.Bool.{Bool}
 use mathlib.Core.List.{[], _∷_}
-use mathlib.Core.Logic.{inl, inr, _↔_}
+use mathlib.Core.Logic.{inl, _↔_}
 use lib.Signed.{clashℤ}
 use Rattle.algebra.proofs.Order.{ThreeWay, minus, none, plus, three-way}
 use Rattle.algebra.proofs.Certificate.{hyp, num, _⊕_, prove≤}
@@ -15,7 +15,7 @@ use Rattle.shape.specs.Flat.{Flat}
 use Rattle.shape.specs.Verdicts.{Says}
 use Rattle.shape.specs.PlaneTest.{inLeftOrder, sorted, trianglePastOne, trianglePastTwo, triangleSorted, triangleTest, segmentPastOne, segmentPastTwo, segmentTest}
 use Rattle.shape.proofs.Symbols.{values, O, turnE}
-use Rattle.shape.proofs.Trading.{In, among-itself, share-trade, share-among, share-reorder}
+use Rattle.shape.proofs.Trading.{In, first, second, third, among-itself, share-trade, share-among, share-reorder}
 use Rattle.shape.proofs.Witnesses.{point-in-triangle}
 use Rattle.shape.proofs.FlatLaws.{flat-in-plane}
 use Rattle.shape.proofs.VerdictLaws.{says-yes, says-by-sign, says-same}
@@ -25,15 +25,6 @@ use Rattle.shape.proofs.SegmentLeaves as segment
 
 -- ---- the corners of a triangle in another order: the same common points
 module _ (P : Shape) (a b c : Point) where
-  first : {x y z : Point} → In x (x ∷ y ∷ z ∷ [])
-  first = inl refl
-
-  second : {x y z : Point} → In y (x ∷ y ∷ z ∷ [])
-  second = inr (inl refl)
-
-  third : {x y z : Point} → In z (x ∷ y ∷ z ∷ [])
-  third = inr (inr (inl refl))
-
   share-turned : Share 2 P (b ∷ c ∷ a ∷ []) ↔ Share 2 P (a ∷ b ∷ c ∷ [])
   share-turned =
       share-reorder (among-itself P) (among-itself P) (second, (third, (first, tt))) (third, (first, (second, tt)))
@@ -103,7 +94,7 @@ triangle-test p1 q1 r1 p2 q2 r2 not-flat-1 not-flat-2 =
         Says (inLeftOrder (triangleSorted a b c) p2 q2 r2) (Share 2 (a ∷ b ∷ c ∷ []) (p2 ∷ q2 ∷ r2 ∷ []))
     second-in-order a b c left =
         says-in-left-order (a ∷ b ∷ c ∷ []) (triangleSorted a b c)
-        (says-sorted (a ∷ b ∷ c ∷ []) a (inl refl) (trianglePastOne a b c) (trianglePastTwo a b c)
+        (says-sorted (a ∷ b ∷ c ∷ []) a first (trianglePastOne a b c) (trianglePastTwo a b c)
         (λ x y z left2 inner past. triangle.past-one a b c x y z left left2 inner past)
         (λ x y z left2 inner past. triangle.past-two a b c x y z left left2 inner past))
         p2 q2 r2 not-flat-2

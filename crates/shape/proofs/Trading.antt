@@ -23,6 +23,16 @@ abbrev pub In : Point → Shape → Type 0
 In a [] = ⊥
 In a (b ∷ P) = (a ≡ b) ⊎ In a P
 
+-- The corners of a triangle.
+pub first : {a b c : Point} → In a (a ∷ b ∷ c ∷ [])
+first = inl refl
+
+pub second : {a b c : Point} → In b (a ∷ b ∷ c ∷ [])
+second = inr (inl refl)
+
+pub third : {a b c : Point} → In c (a ∷ b ∷ c ∷ [])
+third = inr (inr (inl refl))
+
 -- Every corner of the first shape is a corner of the second: the same corners in another order, or a part of them.
 abbrev pub Among : Shape → Shape → Type 0
 Among [] R = Unit {0}

@@ -8,17 +8,17 @@ use mathlib.Core.List.{List, [], _∷_, _++_}
 use mathlib.Core.Logic.{_⊎_, inl, inr}
 use lib.IntN.{ℤ, pos}
 use Rattle.algebra.proofs.Order.{weak, le-of-lt, lt-or-ge}
-use Rattle.algebra.proofs.Certificate.{Rel, hyp, num, _⊕_, _⊗_, prove≤, prove<}
+use Rattle.algebra.proofs.Certificate.{Rel, hyp, _⊕_, _⊗_, prove≤, prove<}
 use Rattle.shape.specs.Points.{Point, Shape}
 use Rattle.shape.specs.Signs.{turn}
 use Rattle.shape.specs.Sharing.{Share}
 use Rattle.shape.specs.Verdicts.{Says}
 use Rattle.shape.specs.PlaneTest.{isRight, cornerIn, lastEdges, trianglePastOne, trianglePastTwo}
 use Rattle.shape.proofs.Symbols.{values, O, turnE}
-use Rattle.shape.proofs.Trading.{In, share-trade, share-among}
+use Rattle.shape.proofs.Trading.{In, first, second, third, among-itself, share-trade, share-among}
 use Rattle.shape.proofs.Witnesses.{point-in-triangle, segments-cross}
 use Rattle.shape.proofs.VerdictLaws.{says-yes, says-no, says-by-sign}
-use Rattle.shape.proofs.Edges.{Right, NotRight, Left, NotLeft, rightE, notRightE, leftE, right-on, right-back, not-right-on, not-right-back, right-mirrored, not-right-mirrored, beside-first, beside-second, beside-third}
+use Rattle.shape.proofs.Edges.{Right, NotRight, Left, NotLeft, rightE, notRightE, leftE, right-carries, all-right, all-left, right-on, right-back, not-right-on, not-right-back, right-mirrored, not-right-mirrored, beside-first, beside-second, beside-third}
 
 -- p1 is strictly right of r2 → p2, and not of p2 → q2.
 module _ (p1 q1 r1 p2 q2 r2 : Point) (left1 : Left p1 q1 r1) (left2 : Left p2 q2 r2) (inner : NotRight p2 q2 p1) (past : Right r2 p2 p1) where
@@ -42,7 +42,7 @@ module _ (p1 q1 r1 p2 q2 r2 : Point) (left1 : Left p1 q1 r1) (left2 : Left p2 q2
   corner-in : NotRight p1 q1 p2 → NotRight q1 r1 p2 → NotRight r1 p1 p2 → Meet
   corner-in pq qr rp =
       share-among {P = p1 ∷ q1 ∷ r1 ∷ []} {Q = p2 ∷ []}
-      (inl refl, (inr (inl refl), (inr (inr (inl refl)), tt))) (inl refl, tt)
+      (among-itself T1) (first, tt)
       (share-trade (point-in-triangle p2 p1 q1 r1 left1 pq qr rp))
 
   edges-cross : (a b c d : Point) → In a T1 → In b T1 → In c T2 → In d T2 → Right c d a → NotRight c d b → NotRight a b c → NotLeft a b d → Meet
@@ -95,7 +95,7 @@ module _ (p1 q1 r1 p2 q2 r2 : Point) (left1 : Left p1 q1 r1) (left2 : Left p2 q2
     where
       by-sign : (Right q1 r1 p2) ⊎ (NotRight q1 r1 p2) → Meet
       by-sign (inl g) =
-          edges-cross q1 r1 r2 p2 (inr (inl refl)) (inr (inr (inl refl))) (inr (inr (inl refl))) (inl refl) past-q1 back h (le-of-lt g)
+          edges-cross q1 r1 r2 p2 second third third first past-q1 back h (le-of-lt g)
       by-sign (inr g) =
           corner-in
           (prove≤ ρ (known ++ (rightE 5 3 1 ∷ notRightE 5 3 2 ∷ notRightE 0 3 2 ∷ notRightE 1 2 3 ∷ [])) O (turnE 0 1 3)
@@ -116,20 +116,7 @@ module _ (p1 q1 r1 p2 q2 r2 : Point) (left1 : Left p1 q1 r1) (left2 : Left p2 q2
 
       outside-r1p1 : NotRight r2 p2 r1 → Right p1 p2 r1 → Says false Meet
       outside-r1p1 back h =
-          let at-p2 : Right r1 p1 p2 = right-back p1 p2 r1 h in
-          let at-r2 : Right r1 p1 r2 =
-          prove< ρ (rightE 5 3 0 ∷ notRightE 5 3 2 ∷ rightE 0 3 2 ∷ []) (turnE 2 0 5) O
-          (num 1) (hyp 0 ⊕ hyp 1 ⊕ hyp 2) tt tt refl past back h in
-          let at-q2 : Right r1 p1 q2 =
-          prove< ρ (known ++ (notRightE 5 3 2 ∷ rightE 0 3 2 ∷ [])) (turnE 2 0 4) O
-          (hyp 3) (hyp 1 ⊗ hyp 5 ⊕ hyp 2 ⊗ hyp 3 ⊕ hyp 2 ⊗ hyp 4 ⊕ hyp 3 ⊗ hyp 5) tt tt refl
-          left1 left2 inner past back h in
-          says-no (beside-third p1 q1 r1 left1 T2 (at-p2, (at-q2, (at-r2, tt))))
-
-  -- where r2 is right of q1 → r1, so is p2
-  p2-beyond : Right r2 p2 q1 → NotRight r2 p2 r1 → Right q1 r1 r2 → Right q1 r1 p2
-  p2-beyond past-q1 back h =
-      prove< ρ (rightE 5 3 1 ∷ notRightE 5 3 2 ∷ rightE 1 2 5 ∷ []) (turnE 1 2 3) O (num 1) (hyp 0 ⊕ hyp 1 ⊕ hyp 2) tt tt refl past-q1 back h
+          says-no (beside-third p1 q1 r1 left1 T2 (all-left p1 r1 p2 q2 r2 left2 past back inner (right-back p1 p2 r1 h)))
 
   -- ---- p1 is past r2 → p2 alone
   pub past-one : NotRight q2 r2 p1 → Says (trianglePastOne p1 q1 r1 p2 q2 r2) Meet
@@ -143,22 +130,15 @@ module _ (p1 q1 r1 p2 q2 r2 : Point) (left1 : Left p1 q1 r1) (left2 : Left p2 q2
           prove< ρ (known ++ (notRightE 4 5 0 ∷ rightE 5 3 1 ∷ notRightE 5 3 2 ∷ rightE 1 2 5 ∷ [])) (turnE 1 2 4) O
           (hyp 3) (hyp 0 ⊗ hyp 1 ⊕ hyp 1 ⊗ hyp 7 ⊕ hyp 3 ⊗ hyp 7 ⊕ hyp 4 ⊗ hyp 5 ⊕ hyp 4 ⊗ hyp 6) tt tt refl
           left1 left2 inner past other past-q1 back h in
-          says-no (beside-second p1 q1 r1 left1 T2 (p2-beyond past-q1 back h, (at-q2, (h, tt))))
+          says-no (beside-second p1 q1 r1 left1 T2 (right-carries r2 p2 q1 r1 past-q1 back h, (at-q2, (h, tt))))
 
       outside-p1q1 : NotRight r2 p2 q1 → Right r2 p1 q1 → Says false Meet
       outside-p1q1 back h =
-          let at-p2 : Right p1 q1 p2 =
-          prove< ρ (rightE 5 3 0 ∷ notRightE 5 3 1 ∷ rightE 5 0 1 ∷ []) (turnE 0 1 3) O (num 1) (hyp 0 ⊕ hyp 1 ⊕ hyp 2) tt tt refl past back h in
-          let at-r2 : Right p1 q1 r2 = right-on r2 p1 q1 h in
-          let at-q2 : Right p1 q1 q2 =
-          prove< ρ (known ++ (notRightE 4 5 0 ∷ notRightE 5 3 1 ∷ rightE 5 0 1 ∷ [])) (turnE 0 1 4) O
-          (hyp 3) (hyp 1 ⊗ hyp 6 ⊕ hyp 3 ⊗ hyp 4 ⊕ hyp 3 ⊗ hyp 6 ⊕ hyp 4 ⊗ hyp 5) tt tt refl
-          left1 left2 inner past other back h in
-          says-no (beside-first p1 q1 r1 left1 T2 (at-p2, (at-q2, (at-r2, tt))))
+          says-no (beside-first p1 q1 r1 left1 T2 (all-right p1 q1 p2 q2 r2 left2 past back other (right-on r2 p1 q1 h)))
 
       crosses : NotRight r2 p2 q1 → NotRight p1 p2 q1 → NotRight r2 p1 q1 → Meet
       crosses back before h =
-          edges-cross p1 q1 r2 p2 (inl refl) (inr (inl refl)) (inr (inr (inl refl))) (inl refl) past back
+          edges-cross p1 q1 r2 p2 first second third first past back
           (not-right-on r2 p1 q1 h)
           (not-right-mirrored p1 p2 q1 before)
 
@@ -174,14 +154,14 @@ module _ (p1 q1 r1 p2 q2 r2 : Point) (left1 : Left p1 q1 r1) (left2 : Left p2 q2
 
       crosses : NotRight q1 r1 q2 → NotRight q2 r2 r1 → Meet
       crosses g h =
-          edges-cross q1 r1 q2 r2 (inr (inl refl)) (inr (inr (inl refl))) (inr (inl refl)) (inr (inr (inl refl))) (past-q1 g) h g (beyond h g)
+          edges-cross q1 r1 q2 r2 second third second third (past-q1 g) h g (beyond h g)
 
   -- q1 is past r2 → p2 too, and r2 right of q1 → r1
   last-edges-back : Right q2 r2 p1 → Right r2 p2 q1 → NotRight r2 p2 r1 → Right q1 r1 r2 → Says (lastEdges q1 r1 q2 r2) Meet
   last-edges-back other past-q1 back h = says-last-edges other outside-q1r1 past-too (λ f g. le-of-lt h)
     where
       outside-q1r1 : Right q1 r1 q2 → Says false Meet
-      outside-q1r1 at-q2 = says-no (beside-second p1 q1 r1 left1 T2 (p2-beyond past-q1 back h, (at-q2, (h, tt))))
+      outside-q1r1 at-q2 = says-no (beside-second p1 q1 r1 left1 T2 (right-carries r2 p2 q1 r1 past-q1 back h, (at-q2, (h, tt))))
 
       past-too : NotRight q1 r1 q2 → Right q2 r2 q1
       past-too g =
@@ -197,8 +177,7 @@ module _ (p1 q1 r1 p2 q2 r2 : Point) (left1 : Left p1 q1 r1) (left2 : Left p2 q2
       outside : Right q1 r1 q2 → (Right q2 r2 r1) ⊎ (NotRight q2 r2 r1) → Says false Meet
       outside h (inl g) = says-no (λ meet. beside-second p2 q2 r2 left2 T1 (other, (past-q1, (g, tt))) (share-trade meet))
       outside h (inr g) =
-          let at-r2 : Right q1 r1 r2 =
-          prove< ρ (rightE 4 5 1 ∷ rightE 1 2 4 ∷ notRightE 4 5 2 ∷ []) (turnE 1 2 5) O (num 1) (hyp 0 ⊕ hyp 1 ⊕ hyp 2) tt tt refl past-q1 h g in
+          let at-r2 : Right q1 r1 r2 = right-carries q2 r2 q1 r1 past-q1 g h in
           let at-p2 : Right q1 r1 p2 =
           prove< ρ (known ++ (rightE 4 5 0 ∷ rightE 4 5 1 ∷ rightE 1 2 4 ∷ notRightE 4 5 2 ∷ [])) (turnE 1 2 3) O
           (hyp 4) (hyp 0 ⊗ hyp 1 ⊕ hyp 1 ⊗ hyp 5 ⊕ hyp 1 ⊗ hyp 6 ⊕ hyp 2 ⊗ hyp 7 ⊕ hyp 3 ⊗ hyp 5 ⊕ hyp 4 ⊗ hyp 5 ⊕ hyp 4 ⊗ hyp 6) tt tt refl
@@ -236,8 +215,8 @@ module _ (p1 q1 r1 p2 q2 r2 : Point) (left1 : Left p1 q1 r1) (left2 : Left p2 q2
 
       crosses : NotRight r2 p2 q1 → NotRight p1 p2 q1 → NotRight q2 p1 q1 → NotRight q2 r2 q1 → (Right p1 q1 r2) ⊎ (NotRight p1 q1 r2) → Meet
       crosses back before near h (inl g) =
-          edges-cross p1 q1 q2 r2 (inl refl) (inr (inl refl)) (inr (inl refl)) (inr (inr (inl refl))) other h
+          edges-cross p1 q1 q2 r2 first second second third other h
           (not-right-on q2 p1 q1 near) (le-of-lt g)
       crosses back before near h (inr g) =
-          edges-cross p1 q1 r2 p2 (inl refl) (inr (inl refl)) (inr (inr (inl refl))) (inl refl) past back g
+          edges-cross p1 q1 r2 p2 first second third first past back g
           (not-right-mirrored p1 p2 q1 before)
