@@ -14,4 +14,9 @@ pub mod Edges
 pub mod TriangleLeaves
 pub mod SegmentLeaves
 pub mod PlaneTest
+pub mod Standings
+pub mod Planes
+pub mod Dropping
+pub mod SpaceLeaves
+pub mod SpaceTest
 pub mod Bench

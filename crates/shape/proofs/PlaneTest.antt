@@ -4,7 +4,7 @@
 use mathlib.Core.Path.{refl}
 use mathlib.Core.Bool.{Bool}
 use mathlib.Core.List.{[], _∷_}
-use mathlib.Core.Logic.{inl, _↔_}
+use mathlib.Core.Logic.{inl}
 use lib.Signed.{clashℤ}
 use Rattle.algebra.proofs.Order.{ThreeWay, minus, none, plus, three-way}
 use Rattle.algebra.proofs.Certificate.{hyp, num, _⊕_, prove≤}
@@ -15,27 +15,13 @@ use Rattle.shape.specs.Flat.{Flat}
 use Rattle.shape.specs.Verdicts.{Says}
 use Rattle.shape.specs.PlaneTest.{inLeftOrder, sorted, trianglePastOne, trianglePastTwo, triangleSorted, triangleTest, segmentPastOne, segmentPastTwo, segmentTest}
 use Rattle.shape.proofs.Symbols.{values, O, turnE}
-use Rattle.shape.proofs.Trading.{In, first, second, third, among-itself, share-trade, share-among, share-reorder}
+use Rattle.shape.proofs.Trading.{In, first, among-itself, share-trade, share-among, share-turned, share-turned-twice, share-mirrored}
 use Rattle.shape.proofs.Witnesses.{point-in-triangle}
 use Rattle.shape.proofs.FlatLaws.{flat-in-plane}
 use Rattle.shape.proofs.VerdictLaws.{says-yes, says-by-sign, says-same}
 use Rattle.shape.proofs.Edges.{Right, NotRight, Left, rightE, leftE, left-on, left-back, right-mirrored}
 use Rattle.shape.proofs.TriangleLeaves as triangle
 use Rattle.shape.proofs.SegmentLeaves as segment
-
--- ---- the corners of a triangle in another order: the same common points
-module _ (P : Shape) (a b c : Point) where
-  share-turned : Share 2 P (b ∷ c ∷ a ∷ []) ↔ Share 2 P (a ∷ b ∷ c ∷ [])
-  share-turned =
-      share-reorder (among-itself P) (among-itself P) (second, (third, (first, tt))) (third, (first, (second, tt)))
-
-  share-turned-twice : Share 2 P (c ∷ a ∷ b ∷ []) ↔ Share 2 P (a ∷ b ∷ c ∷ [])
-  share-turned-twice =
-      share-reorder (among-itself P) (among-itself P) (third, (first, (second, tt))) (second, (third, (first, tt)))
-
-  share-mirrored : Share 2 P (a ∷ c ∷ b ∷ []) ↔ Share 2 P (a ∷ b ∷ c ∷ [])
-  share-mirrored =
-      share-reorder (among-itself P) (among-itself P) (first, (third, (second, tt))) (first, (third, (second, tt)))
 
 -- ---- a corner p of P sorted against a triangle that turns left
 -- Strictly right of two edges, p is not right of the third: the three turns add up to the triangle's own.

@@ -113,6 +113,20 @@ share-among m m′ h =
 pub share-reorder : {n : ℕ} {P Q P′ Q′ : Shape} → Among P P′ → Among P′ P → Among Q Q′ → Among Q′ Q → Share n P Q ↔ Share n P′ Q′
 share-reorder m m′ k k′ = (share-among m k, share-among m′ k′)
 
+-- A triangle with its corners turned by one, by two, and with its last two corners swapped.
+module _ {n : ℕ} (P : Shape) (a b c : Point) where
+  pub share-turned : Share n P (b ∷ c ∷ a ∷ []) ↔ Share n P (a ∷ b ∷ c ∷ [])
+  share-turned =
+      share-reorder (among-itself P) (among-itself P) (second, (third, (first, tt))) (third, (first, (second, tt)))
+
+  pub share-turned-twice : Share n P (c ∷ a ∷ b ∷ []) ↔ Share n P (a ∷ b ∷ c ∷ [])
+  share-turned-twice =
+      share-reorder (among-itself P) (among-itself P) (third, (first, (second, tt))) (second, (third, (first, tt)))
+
+  pub share-mirrored : Share n P (a ∷ c ∷ b ∷ []) ↔ Share n P (a ∷ b ∷ c ∷ [])
+  share-mirrored =
+      share-reorder (among-itself P) (among-itself P) (first, (third, (second, tt))) (first, (third, (second, tt)))
+
 -- ---- both shapes moved by one vector
 pub coord-moved : (i : ℕ) (d a : Point) → coord i (moved d a) ≡ coord i d +ℤ coord i a
 coord-moved i [] a = sym (+ℤ-idl (coord i a))

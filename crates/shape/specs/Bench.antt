@@ -26,21 +26,49 @@ abbrev pub AllHold : List Row → Type 0
 AllHold [] = Unit {0}
 AllHold (r ∷ rs) = Holds r × AllHold rs
 
--- P5 with z dropped: (0,0) (10,0) (0,10) and (1,1) (2,1) (1,2) meet, the second inside the first.
-abbrev pub row-P5-flat : Row
-row-P5-flat =
-    verdict-row 2 3 3
-    (pos 0 ∷ pos 0 ∷ pos 10 ∷ pos 0 ∷ pos 0 ∷ pos 10 ∷ [])
-    (pos 1 ∷ pos 1 ∷ pos 2 ∷ pos 1 ∷ pos 1 ∷ pos 2 ∷ [])
+-- A is (0,0,0) (4,0,0) (0,4,0).
+abbrev pub A : List ℤ
+A = pos 0 ∷ pos 0 ∷ pos 0 ∷ pos 4 ∷ pos 0 ∷ pos 0 ∷ pos 0 ∷ pos 4 ∷ pos 0 ∷ []
+
+-- P1: A and (1,1,-1) (1,1,1) (5,5,1) meet.
+abbrev pub row-P1 : Row
+row-P1 = verdict-row 3 3 3 A (pos 1 ∷ pos 1 ∷ negsuc 0 ∷ pos 1 ∷ pos 1 ∷ pos 1 ∷ pos 5 ∷ pos 5 ∷ pos 1 ∷ []) true
+
+-- P2: A and (1,1,1) (2,1,1) (1,2,1) do not.
+abbrev pub row-P2 : Row
+row-P2 = verdict-row 3 3 3 A (pos 1 ∷ pos 1 ∷ pos 1 ∷ pos 2 ∷ pos 1 ∷ pos 1 ∷ pos 1 ∷ pos 2 ∷ pos 1 ∷ []) false
+
+-- P3: A and (4,0,0) (5,0,1) (5,1,1) have one corner in common.
+abbrev pub row-P3 : Row
+row-P3 = verdict-row 3 3 3 A (pos 4 ∷ pos 0 ∷ pos 0 ∷ pos 5 ∷ pos 0 ∷ pos 1 ∷ pos 5 ∷ pos 1 ∷ pos 1 ∷ []) true
+
+-- P4: A and (0,0,0) (4,0,0) (0,-4,0) have one edge in common.
+abbrev pub row-P4 : Row
+row-P4 = verdict-row 3 3 3 A (pos 0 ∷ pos 0 ∷ pos 0 ∷ pos 4 ∷ pos 0 ∷ pos 0 ∷ pos 0 ∷ negsuc 3 ∷ pos 0 ∷ []) true
+
+-- P5: (1,1,0) (2,1,0) (1,2,0) lies inside (0,0,0) (10,0,0) (0,10,0).
+abbrev pub row-P5 : Row
+row-P5 =
+    verdict-row 3 3 3
+    (pos 0 ∷ pos 0 ∷ pos 0 ∷ pos 10 ∷ pos 0 ∷ pos 0 ∷ pos 0 ∷ pos 10 ∷ pos 0 ∷ [])
+    (pos 1 ∷ pos 1 ∷ pos 0 ∷ pos 2 ∷ pos 1 ∷ pos 0 ∷ pos 1 ∷ pos 2 ∷ pos 0 ∷ [])
     true
 
--- P6 with z dropped: (0,0) (4,0) (0,4) and (3,3) (5,3) (3,5) do not meet.
-abbrev pub row-P6-flat : Row
-row-P6-flat =
-    verdict-row 2 3 3
-    (pos 0 ∷ pos 0 ∷ pos 4 ∷ pos 0 ∷ pos 0 ∷ pos 4 ∷ [])
-    (pos 3 ∷ pos 3 ∷ pos 5 ∷ pos 3 ∷ pos 3 ∷ pos 5 ∷ [])
-    false
+-- P6: A and (3,3,0) (5,3,0) (3,5,0) lie in one plane and do not meet.
+abbrev pub row-P6 : Row
+row-P6 = verdict-row 3 3 3 A (pos 3 ∷ pos 3 ∷ pos 0 ∷ pos 5 ∷ pos 3 ∷ pos 0 ∷ pos 3 ∷ pos 5 ∷ pos 0 ∷ []) false
+
+-- P7: A and (2,3,-1) (2,3,1) (5,5,0) do not meet, though each straddles the other's plane.
+abbrev pub row-P7 : Row
+row-P7 = verdict-row 3 3 3 A (pos 2 ∷ pos 3 ∷ negsuc 0 ∷ pos 2 ∷ pos 3 ∷ pos 1 ∷ pos 5 ∷ pos 5 ∷ pos 0 ∷ []) false
+
+-- P8: A meets itself.
+abbrev pub row-P8 : Row
+row-P8 = verdict-row 3 3 3 A A true
+
+-- P9: the segment (0,0,0) (1,0,0), an edge's part, and A meet.
+abbrev pub row-P9 : Row
+row-P9 = verdict-row 3 2 3 (pos 0 ∷ pos 0 ∷ pos 0 ∷ pos 1 ∷ pos 0 ∷ pos 0 ∷ []) A true
 
 -- P10: the turn of (0,0) (4,0) (0,4) is 16, to the left.
 abbrev pub row-P10 : Row
@@ -60,4 +88,5 @@ row-P11 =
 
 -- The table.
 abbrev pub rows : List Row
-rows = row-P5-flat ∷ row-P6-flat ∷ row-P10 ∷ row-P11 ∷ []
+rows =
+    row-P1 ∷ row-P2 ∷ row-P3 ∷ row-P4 ∷ row-P5 ∷ row-P6 ∷ row-P7 ∷ row-P8 ∷ row-P9 ∷ row-P10 ∷ row-P11 ∷ []

@@ -5,4 +5,5 @@ pub mod Sharing
 pub mod Flat
 pub mod Verdicts
 pub mod PlaneTest
+pub mod SpaceTest
 pub mod Bench

@@ -1,0 +1,80 @@
+-- Planes of space: the functional along two directions, the plane of a triangle as one of them, and what lies strictly on one side
+-- of it. Assumes nothing.
+use mathlib.Core.Path.{_≡_, refl}
+use mathlib.Core.List.{List, [], _∷_}
+use Prim.Native.Nat.{ℕ, zero, suc}
+use native.Mathlib.Omega.{arith}
+use lib.IntN.{ℤ, pos, negℤ}
+use lib.Signed.{_<ℤ_}
+use Rattle.algebra.proofs.Expression.{Ex, _⊞_, _⊠_, neg}
+use Rattle.algebra.proofs.Solver.{ring}
+use Rattle.algebra.proofs.Certificate.{_≺_, hyp, num, prove≤, prove<}
+use Rattle.shape.specs.Points.{Point, Shape}
+use Rattle.shape.specs.Signs.{row, minor, side}
+use Rattle.shape.specs.Sharing.{Share}
+use Rattle.shape.proofs.Symbols.{values, O, PointE, point, rowE, minorE, sideE}
+use Rattle.shape.proofs.Weights.{Every}
+use Rattle.shape.proofs.Trading.{first, second, third, among-itself, share-among}
+use Rattle.shape.proofs.Apart.{dotFrom, functional, apart}
+
+-- ---- the functional along a → b and c → d, zero at a: its numbers are those of (b - a) × (d - c)
+abbrev pub across : Point → Point → Point → Point → List ℤ
+across a b c d =
+    minor 1 2 (row b a) (row d c) ∷ minor 2 0 (row b a) (row d c) ∷ minor 0 1 (row b a) (row d c) ∷ []
+
+abbrev pub level-of : Point → Point → Point → Point → ℤ
+level-of a b c d = negℤ (dotFrom 0 (across a b c d) a)
+
+-- The same of symbols, and its value at the point x.
+abbrev acrossE : ℕ → ℕ → ℕ → ℕ → PointE
+acrossE a b c d zero = minorE 1 2 (rowE (point b) (point a)) (rowE (point d) (point c))
+acrossE a b c d (suc zero) = minorE 2 0 (rowE (point b) (point a)) (rowE (point d) (point c))
+acrossE a b c d (suc (suc k)) = minorE 0 1 (rowE (point b) (point a)) (rowE (point d) (point c))
+
+abbrev dotE : PointE → PointE → Ex
+dotE n x = n 0 ⊠ x 0 ⊞ (n 1 ⊠ x 1 ⊞ (n 2 ⊠ x 2 ⊞ O))
+
+abbrev pub acrossAt : ℕ → ℕ → ℕ → ℕ → ℕ → Ex
+acrossAt a b c d x = dotE (acrossE a b c d) (point x) ⊞ neg (dotE (acrossE a b c d) (point a))
+
+-- ---- the plane of a triangle
+-- The functional of the plane of a, b, c is the opposite of the side value.
+pub plane-is-side : (a b c x : Point) → functional (across c a c b) (level-of c a c b) x ≡ negℤ (side a b c x)
+plane-is-side a b c x = ring (values (a ∷ b ∷ c ∷ x ∷ [])) (acrossAt 2 0 2 1 3) (neg (sideE 0 1 2 3)) tt refl
+
+-- The corners of a triangle are on its plane.
+pub corners-on : (a b c : Point) → Every (λ x. side a b c x ≡ pos 0) (a ∷ b ∷ c ∷ [])
+corners-on a b c =
+    (ring ρ (sideE 0 1 2 0) O tt refl, (ring ρ (sideE 0 1 2 1) O tt refl, (ring ρ (sideE 0 1 2 2) O tt refl, tt)))
+  where
+    ρ : List ℤ
+    ρ = values (a ∷ b ∷ c ∷ [])
+
+-- What lies strictly below the plane of a triangle has no point in common with it, and what lies strictly above it neither.
+pub below-plane : (a b c : Point) (Q : Shape) → Every (λ x. side a b c x <ℤ pos 0) Q → Share 3 (a ∷ b ∷ c ∷ []) Q → ⊥
+below-plane a b c Q h =
+    apart (across c a c b) (level-of c a c b) (omega arith) (
+      prove≤ (ρ a) [] (acrossAt 2 0 2 1 0) O (num 1) (num 0) tt tt refl,
+      (
+        prove≤ (ρ a) [] (acrossAt 2 0 2 1 1) O (num 1) (num 0) tt tt refl,
+        (prove≤ (ρ a) [] (acrossAt 2 0 2 1 2) O (num 1) (num 0) tt tt refl, tt),
+      ),
+    ) (each Q h)
+  where
+    ρ : Point → List ℤ
+    ρ x = values (a ∷ b ∷ c ∷ x ∷ [])
+
+    each : (R : Shape) → Every (λ x. side a b c x <ℤ pos 0) R → Every (λ x. pos 0 <ℤ functional (across c a c b) (level-of c a c b) x) R
+    each [] g = tt
+    each (x ∷ R) g = (prove< (ρ x) ((sideE 0 1 2 3 ≺ O) ∷ []) O (acrossAt 2 0 2 1 3) (num 1) (hyp 0) tt tt refl (g .0), each R (g .1))
+
+pub above-plane : (a b c : Point) (Q : Shape) → Every (λ x. pos 0 <ℤ side a b c x) Q → Share 3 (a ∷ b ∷ c ∷ []) Q → ⊥
+above-plane a b c Q h s =
+    below-plane a c b Q (each Q h) (share-among (first, (third, (second, tt))) (among-itself Q) s)
+  where
+    each : (R : Shape) → Every (λ x. pos 0 <ℤ side a b c x) R → Every (λ x. side a c b x <ℤ pos 0) R
+    each [] g = tt
+    each (x ∷ R) g = (
+      prove< (values (a ∷ b ∷ c ∷ x ∷ [])) ((O ≺ sideE 0 1 2 3) ∷ []) (sideE 0 2 1 3) O (num 1) (hyp 0) tt tt refl (g .0),
+      each R (g .1),
+    )

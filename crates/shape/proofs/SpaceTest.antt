@@ -1,0 +1,176 @@
+-- The tests in space (specs/SpaceTest.antt) say yes exactly when the two shapes have a point in common: two triangles that are not
+-- flat, and a segment and a triangle that is not flat. Assumes nothing.
+use mathlib.Core.Path.{_≡_, refl, subst₃}
+use mathlib.Core.Bool.{Bool, true, false}
+use mathlib.Core.List.{[], _∷_}
+use mathlib.Core.Logic.{inl, inr, _↔_}
+use Prim.Native.Nat.{ℕ, zero, suc}
+use lib.IntN.{ℤ, pos, negℤ}
+use Rattle.algebra.proofs.Expression.{neg}
+use Rattle.algebra.proofs.Solver.{ring}
+use Rattle.shape.specs.Points.{Point}
+use Rattle.shape.specs.Signs.{side}
+use Rattle.shape.specs.Sharing.{Share}
+use Rattle.shape.specs.Flat.{Flat}
+use Rattle.shape.specs.Verdicts.{Says}
+use Rattle.shape.specs.SpaceTest.{Standing, beside, within, alone, standing, pattern, byStanding, swapped, placed, without, normalAt, axis, inPlaneTest, segmentInPlaneTest, lastSigns, crossingTest, spaceTest, segmentSpaceTest}
+use Rattle.shape.proofs.Symbols.{values, sideE}
+use Rattle.shape.proofs.Trading.{share-trade, share-among, among-itself, share-turned, share-turned-twice, share-mirrored}
+use Rattle.shape.proofs.VerdictLaws.{says-no, says-same}
+use Rattle.shape.proofs.FlatLaws.{flat-in-plane}
+use Rattle.shape.proofs.PlaneTest.{triangle-test, segment-test}
+use Rattle.shape.proofs.Standings.{Alone, AloneBy, alone-swapped, Fits, fits, says-by-ends}
+use Rattle.shape.proofs.Planes.{corners-on, below-plane, above-plane}
+use Rattle.shape.proofs.Dropping.{OnPlane, share-dropped, axis-stands, flat-dropped}
+use Rattle.shape.proofs.SpaceLeaves.{last-signs, past-no-edge}
+
+-- ---- one plane
+not-flat-without : (k : ℕ) (a b c : Point) → (normalAt k a b c ≡ pos 0 → ⊥) → Flat 2 (without k a ∷ without k b ∷ without k c ∷ []) → ⊥
+not-flat-without k a b c not-zero flat = not-zero (flat-in-plane (without k a) (without k b) (without k c) .0 flat)
+
+in-plane : (p1 q1 r1 p2 q2 r2 : Point) → (Flat 3 (p1 ∷ q1 ∷ r1 ∷ []) → ⊥) → (Flat 3 (p2 ∷ q2 ∷ r2 ∷ []) → ⊥) →
+    OnPlane p2 q2 r2 p1 → OnPlane p2 q2 r2 q1 → OnPlane p2 q2 r2 r1 →
+    Says (inPlaneTest p1 q1 r1 p2 q2 r2) (Share 3 (p1 ∷ q1 ∷ r1 ∷ []) (p2 ∷ q2 ∷ r2 ∷ []))
+in-plane p1 q1 r1 p2 q2 r2 not-flat-1 not-flat-2 on-p on-q on-r =
+    let k = axis p2 q2 r2 in
+    let stands = axis-stands p2 q2 r2 not-flat-2 in
+    says-same
+    (share-dropped k (p1 ∷ q1 ∷ r1 ∷ []) (p2 ∷ q2 ∷ r2 ∷ []) p2 q2 r2 (on-p, (on-q, (on-r, tt))) (corners-on p2 q2 r2) stands)
+    (triangle-test (without k p1) (without k q1) (without k r1) (without k p2) (without k q2) (without k r2)
+    (not-flat-without k p1 q1 r1 (λ e. not-flat-1 (flat-dropped p1 q1 r1 p2 q2 r2 on-p on-q on-r k stands e)))
+    (not-flat-without k p2 q2 r2 stands))
+
+segment-in-plane : (p q a b c : Point) → (Flat 3 (a ∷ b ∷ c ∷ []) → ⊥) → OnPlane a b c p → OnPlane a b c q →
+    Says (segmentInPlaneTest p q a b c) (Share 3 (p ∷ q ∷ []) (a ∷ b ∷ c ∷ []))
+segment-in-plane p q a b c not-flat on-p on-q =
+    let k = axis a b c in
+    let stands = axis-stands a b c not-flat in
+    says-same (share-dropped k (p ∷ q ∷ []) (a ∷ b ∷ c ∷ []) a b c (on-p, (on-q, tt)) (corners-on a b c) stands)
+    (segment-test (without k p) (without k q) (without k a) (without k b) (without k c) (not-flat-without k a b c stands))
+
+-- ---- the corners of a plane in another order: turning them leaves every side value, swapping two turns its sign
+module _ (a b c x : Point) where
+  side-turned : side a b c x ≡ side b c a x
+  side-turned = ring (values (a ∷ b ∷ c ∷ x ∷ [])) (sideE 0 1 2 3) (sideE 1 2 0 3) tt refl
+
+  side-turned-twice : side a b c x ≡ side c a b x
+  side-turned-twice = ring (values (a ∷ b ∷ c ∷ x ∷ [])) (sideE 0 1 2 3) (sideE 2 0 1 3) tt refl
+
+  side-swapped : negℤ (side a b c x) ≡ side a c b x
+  side-swapped = ring (values (a ∷ b ∷ c ∷ x ∷ [])) (neg (sideE 0 1 2 3)) (sideE 0 2 1 3) tt refl
+
+-- The corners p, q, r against the plane of a, b, c, with F what is known of their side values.
+module _ (F : ℤ → ℤ → ℤ → Type 0) (p q r a b c : Point) where
+  plane-turned : F (side a b c p) (side a b c q) (side a b c r) → F (side b c a p) (side b c a q) (side b c a r)
+  plane-turned = subst₃ F (side-turned a b c p) (side-turned a b c q) (side-turned a b c r)
+
+  plane-turned-twice : F (side a b c p) (side a b c q) (side a b c r) → F (side c a b p) (side c a b q) (side c a b r)
+  plane-turned-twice = subst₃ F (side-turned-twice a b c p) (side-turned-twice a b c q) (side-turned-twice a b c r)
+
+  plane-swapped : F (negℤ (side a b c p)) (negℤ (side a b c q)) (negℤ (side a b c r)) → F (side a c b p) (side a c b q) (side a c b r)
+  plane-swapped = subst₃ F (side-swapped a b c p) (side-swapped a b c q) (side-swapped a b c r)
+
+alone-by-swapped : (swap : Bool) (x y z : ℤ) → AloneBy swap x y z → AloneBy swap x z y
+alone-by-swapped false x y z h = alone-swapped h
+alone-by-swapped true x y z h = alone-swapped h
+
+signs-turned : (turns : ℕ) (x y z : ℤ) → Fits (alone turns true) x y z → Fits (alone turns false) (negℤ x) (negℤ y) (negℤ z)
+signs-turned zero x y z h = h
+signs-turned (suc zero) x y z h = h
+signs-turned (suc (suc turns)) x y z h = h
+
+-- ---- the new order, from the last step to the first: the verdict by it is right for the corners as they stood
+-- The second triangle's last two corners.
+after-swap-2 : (swap2 : Bool) (p1 q1 r1 p2 q2 r2 : Point) →
+    AloneBy swap2 (side p2 q2 r2 p1) (side p2 q2 r2 q1) (side p2 q2 r2 r1) → Alone (side p1 q1 r1 p2) (side p1 q1 r1 q2) (side p1 q1 r1 r2) →
+    Says (swapped swap2 (lastSigns p1 q1 r1) p2 q2 r2) (Share 3 (p1 ∷ q1 ∷ r1 ∷ []) (p2 ∷ q2 ∷ r2 ∷ []))
+after-swap-2 false p1 q1 r1 p2 q2 r2 lone-1 lone-2 = last-signs p1 q1 r1 p2 q2 r2 lone-1 lone-2
+after-swap-2 true p1 q1 r1 p2 q2 r2 lone-1 lone-2 =
+    says-same (share-mirrored (p1 ∷ q1 ∷ r1 ∷ []) p2 q2 r2)
+    (last-signs p1 q1 r1 p2 r2 q2 (plane-swapped Alone p1 q1 r1 p2 q2 r2 lone-1) (alone-swapped lone-2))
+
+-- Its turns.
+after-turns-2 : (turns2 : ℕ) (swap2 : Bool) (p1 q1 r1 p2 q2 r2 : Point) →
+    AloneBy swap2 (side p2 q2 r2 p1) (side p2 q2 r2 q1) (side p2 q2 r2 r1) →
+    Fits (alone turns2 false) (side p1 q1 r1 p2) (side p1 q1 r1 q2) (side p1 q1 r1 r2) →
+    Says (placed turns2 swap2 (lastSigns p1 q1 r1) p2 q2 r2) (Share 3 (p1 ∷ q1 ∷ r1 ∷ []) (p2 ∷ q2 ∷ r2 ∷ []))
+after-turns-2 zero swap2 p1 q1 r1 p2 q2 r2 lone-1 fit-2 = after-swap-2 swap2 p1 q1 r1 p2 q2 r2 lone-1 fit-2
+after-turns-2 (suc zero) swap2 p1 q1 r1 p2 q2 r2 lone-1 fit-2 =
+    says-same (share-turned (p1 ∷ q1 ∷ r1 ∷ []) p2 q2 r2)
+    (after-swap-2 swap2 p1 q1 r1 q2 r2 p2 (plane-turned (AloneBy swap2) p1 q1 r1 p2 q2 r2 lone-1) fit-2)
+after-turns-2 (suc (suc n)) swap2 p1 q1 r1 p2 q2 r2 lone-1 fit-2 =
+    says-same (share-turned-twice (p1 ∷ q1 ∷ r1 ∷ []) p2 q2 r2)
+    (after-swap-2 swap2 p1 q1 r1 r2 p2 q2 (plane-turned-twice (AloneBy swap2) p1 q1 r1 p2 q2 r2 lone-1) fit-2)
+
+module _ (turns2 : ℕ) (swap2 : Bool) (p2 q2 r2 : Point) where
+  abbrev lastOf : Point → Point → Point → Bool
+  lastOf a b c = placed turns2 swap2 (lastSigns a b c) p2 q2 r2
+
+  -- The corners of the first triangle in another order.
+  first-reordered : {v : Bool} {a b c x y z : Point} → Share 3 (p2 ∷ q2 ∷ r2 ∷ []) (x ∷ y ∷ z ∷ []) ↔ Share 3 (p2 ∷ q2 ∷ r2 ∷ []) (a ∷ b ∷ c ∷ []) →
+      Says v (Share 3 (x ∷ y ∷ z ∷ []) (p2 ∷ q2 ∷ r2 ∷ [])) → Says v (Share 3 (a ∷ b ∷ c ∷ []) (p2 ∷ q2 ∷ r2 ∷ []))
+  first-reordered same = says-same (λ h. share-trade (same .0 (share-trade h)), λ h. share-trade (same .1 (share-trade h)))
+
+  -- The first triangle's last two corners.
+  after-swap-1 : (swap1 : Bool) (p1 q1 r1 : Point) →
+      AloneBy swap2 (side p2 q2 r2 p1) (side p2 q2 r2 q1) (side p2 q2 r2 r1) →
+      Fits (alone turns2 swap1) (side p1 q1 r1 p2) (side p1 q1 r1 q2) (side p1 q1 r1 r2) →
+      Says (swapped swap1 lastOf p1 q1 r1) (Share 3 (p1 ∷ q1 ∷ r1 ∷ []) (p2 ∷ q2 ∷ r2 ∷ []))
+  after-swap-1 false p1 q1 r1 lone-1 fit-2 = after-turns-2 turns2 swap2 p1 q1 r1 p2 q2 r2 lone-1 fit-2
+  after-swap-1 true p1 q1 r1 lone-1 fit-2 =
+      first-reordered (share-mirrored (p2 ∷ q2 ∷ r2 ∷ []) p1 q1 r1)
+      (after-turns-2 turns2 swap2 p1 r1 q1 p2 q2 r2 (alone-by-swapped swap2 (side p2 q2 r2 p1) (side p2 q2 r2 q1) (side p2 q2 r2 r1) lone-1)
+      (plane-swapped (Fits (alone turns2 false)) p2 q2 r2 p1 q1 r1 (signs-turned turns2 (side p1 q1 r1 p2) (side p1 q1 r1 q2) (side p1 q1 r1 r2) fit-2)))
+
+  -- Its turns.
+  after-turns-1 : (turns1 : ℕ) (swap1 : Bool) (p1 q1 r1 : Point) →
+      Fits (alone turns1 swap2) (side p2 q2 r2 p1) (side p2 q2 r2 q1) (side p2 q2 r2 r1) →
+      Fits (alone turns2 swap1) (side p1 q1 r1 p2) (side p1 q1 r1 q2) (side p1 q1 r1 r2) →
+      Says (placed turns1 swap1 lastOf p1 q1 r1) (Share 3 (p1 ∷ q1 ∷ r1 ∷ []) (p2 ∷ q2 ∷ r2 ∷ []))
+  after-turns-1 zero swap1 p1 q1 r1 fit-1 fit-2 = after-swap-1 swap1 p1 q1 r1 fit-1 fit-2
+  after-turns-1 (suc zero) swap1 p1 q1 r1 fit-1 fit-2 =
+      first-reordered (share-turned (p2 ∷ q2 ∷ r2 ∷ []) p1 q1 r1)
+      (after-swap-1 swap1 q1 r1 p1 fit-1 (plane-turned (Fits (alone turns2 swap1)) p2 q2 r2 p1 q1 r1 fit-2))
+  after-turns-1 (suc (suc n)) swap1 p1 q1 r1 fit-1 fit-2 =
+      first-reordered (share-turned-twice (p2 ∷ q2 ∷ r2 ∷ []) p1 q1 r1)
+      (after-swap-1 swap1 r1 p1 q1 fit-1 (plane-turned-twice (Fits (alone turns2 swap1)) p2 q2 r2 p1 q1 r1 fit-2))
+
+-- ---- the tests
+-- Two triangles in space, neither flat.
+module _ (p1 q1 r1 p2 q2 r2 : Point) (not-flat-1 : Flat 3 (p1 ∷ q1 ∷ r1 ∷ []) → ⊥) (not-flat-2 : Flat 3 (p2 ∷ q2 ∷ r2 ∷ []) → ⊥) where
+  abbrev Meet : Type 0
+  Meet = Share 3 (p1 ∷ q1 ∷ r1 ∷ []) (p2 ∷ q2 ∷ r2 ∷ [])
+
+  by-second : (turns1 : ℕ) (swap2 : Bool) → Fits (alone turns1 swap2) (side p2 q2 r2 p1) (side p2 q2 r2 q1) (side p2 q2 r2 r1) →
+      (st : Standing) → Fits st (side p1 q1 r1 p2) (side p1 q1 r1 q2) (side p1 q1 r1 r2) →
+      Says (byStanding st (inPlaneTest p2 q2 r2 p1 q1 r1) (λ turns2 swap1. placed turns1 swap1 (λ a b c. placed turns2 swap2 (lastSigns a b c) p2 q2 r2) p1 q1 r1)) Meet
+  by-second turns1 swap2 fit-1 beside (inl h) = says-no (below-plane p1 q1 r1 (p2 ∷ q2 ∷ r2 ∷ []) (h .0, (h .1, (h .2, tt))))
+  by-second turns1 swap2 fit-1 beside (inr h) = says-no (above-plane p1 q1 r1 (p2 ∷ q2 ∷ r2 ∷ []) (h .0, (h .1, (h .2, tt))))
+  by-second turns1 swap2 fit-1 within h =
+      says-same (share-trade, share-trade) (in-plane p2 q2 r2 p1 q1 r1 not-flat-2 not-flat-1 (h .0) (h .1) (h .2))
+  by-second turns1 swap2 fit-1 (alone turns2 swap1) fit-2 = after-turns-1 turns2 swap2 p2 q2 r2 turns1 swap1 p1 q1 r1 fit-1 fit-2
+
+  by-first : (st : Standing) → Fits st (side p2 q2 r2 p1) (side p2 q2 r2 q1) (side p2 q2 r2 r1) →
+      Says (byStanding st (inPlaneTest p1 q1 r1 p2 q2 r2) (crossingTest p1 q1 r1 p2 q2 r2)) Meet
+  by-first beside (inl h) = says-no (λ s. below-plane p2 q2 r2 (p1 ∷ q1 ∷ r1 ∷ []) (h .0, (h .1, (h .2, tt))) (share-trade s))
+  by-first beside (inr h) = says-no (λ s. above-plane p2 q2 r2 (p1 ∷ q1 ∷ r1 ∷ []) (h .0, (h .1, (h .2, tt))) (share-trade s))
+  by-first within h = in-plane p1 q1 r1 p2 q2 r2 not-flat-1 not-flat-2 (h .0) (h .1) (h .2)
+  by-first (alone turns1 swap2) fit-1 =
+      by-second turns1 swap2 fit-1 (standing (pattern p2 q2 r2 p1 q1 r1)) (fits (side p1 q1 r1 p2) (side p1 q1 r1 q2) (side p1 q1 r1 r2))
+
+  pub space-test : Says (spaceTest p1 q1 r1 p2 q2 r2) Meet
+  space-test = by-first (standing (pattern p1 q1 r1 p2 q2 r2)) (fits (side p2 q2 r2 p1) (side p2 q2 r2 q1) (side p2 q2 r2 r1))
+
+-- A segment, flat or not, and a triangle that is not flat, in space.
+pub segment-space-test : (p q a b c : Point) → (Flat 3 (a ∷ b ∷ c ∷ []) → ⊥) →
+    Says (segmentSpaceTest p q a b c) (Share 3 (p ∷ q ∷ []) (a ∷ b ∷ c ∷ []))
+segment-space-test p q a b c not-flat =
+    says-by-ends (side a b c p) (side a b c q)
+    (λ at-p at-q s. below-plane a b c (p ∷ q ∷ []) (at-p, (at-q, tt)) (share-trade s))
+    (λ at-p at-q s. above-plane a b c (p ∷ q ∷ []) (at-p, (at-q, tt)) (share-trade s))
+    (segment-in-plane p q a b c not-flat)
+    (past-no-edge p q a b c)
+    (λ at-q at-p falls. says-same (ends-traded q p, ends-traded p q) (past-no-edge q p a b c at-q at-p falls))
+  where
+    ends-traded : (u v : Point) → Share 3 (u ∷ v ∷ []) (a ∷ b ∷ c ∷ []) → Share 3 (v ∷ u ∷ []) (a ∷ b ∷ c ∷ [])
+    ends-traded u v = share-among (inr (inl refl), (inl refl, tt)) (among-itself (a ∷ b ∷ c ∷ []))
