@@ -1,11 +1,14 @@
 /*
- * Zimogrud for C and C++: the exact signs of points and the flat test of two triangles, as libdoor.a has them.
+ * Zimogrud for C and C++: the exact signs of points, and the tests whether two shapes of the plane or of space have a point
+ * in common, as libdoor.a has them.
  *
  * What goes in. Points are one list of whole numbers, point after point:
  *
- *     zg_turn   three points of the plane, six numbers
- *     zg_side   four points of space, twelve numbers
- *     zg_flat   two triangles of the plane, six numbers each
+ *     zg_turn      three points of the plane, six numbers
+ *     zg_side      four points of space, twelve numbers
+ *     zg_flat      two triangles of the plane, six numbers each
+ *     zg_segment   a segment and a triangle of space, six and nine numbers
+ *     zg_pair      two triangles of space, nine numbers each
  *
  * Any numbers and any lengths may be given. What can't be served is refused.
  *
@@ -21,8 +24,10 @@
  *
  *     refusal   given where                                                          place
  *     1         a number is below -524288 or above 524288                            its position in that list, from 0
- *     2         a triangle is flat: its corners lie on one line (zg_flat only)       0
+ *     2         a triangle or a segment is flat (not zg_turn and zg_side)            0
  *     3         a list has the wrong length                                          its length
+ *
+ * A triangle is flat where its corners lie on one line, and a segment where its ends are equal.
  *
  * Of several faults the first counts: 3, first list before second; then 1 and then 2 of the first list, and of the second.
  *
@@ -48,6 +53,13 @@ uint32_t zg_side(const int32_t *points, size_t points_length, uint64_t *answer, 
 
 /* Value: whether the two triangles have a point in common. 0 apart, 1 meeting; a touch is meeting. */
 uint32_t zg_flat(const int32_t *a, size_t a_length, const int32_t *b, size_t b_length, uint64_t *answer, size_t answer_length);
+
+/* Value: whether the segment a and the triangle b have a point in common. 0 apart, 1 meeting; a touch is meeting. */
+uint32_t zg_segment(const int32_t *a, size_t a_length, const int32_t *b, size_t b_length, uint64_t *answer,
+    size_t answer_length);
+
+/* Value: whether the two triangles have a point in common. 0 apart, 1 meeting; a touch is meeting. */
+uint32_t zg_pair(const int32_t *a, size_t a_length, const int32_t *b, size_t b_length, uint64_t *answer, size_t answer_length);
 
 #ifdef __cplusplus
 }

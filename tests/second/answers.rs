@@ -1,11 +1,17 @@
 //! Own answers to every call, refusals included, as document 01 asks for them.
 
-use crate::geometry::{self, Contact, Flat, FlatTriangle, Overlap, Space};
+use crate::geometry::axes::{self, Overlap};
+use crate::geometry::clipping::{self, Reach};
+use crate::geometry::edges::{self, Contact};
+use crate::geometry::signs;
+use crate::geometry::{Point, Segment, Space, Triangle};
 
 pub const GRID: i32 = 524_288;
 pub const TURN_NUMBERS: usize = 6;
 pub const SIDE_NUMBERS: usize = 12;
 pub const FLAT_TRIANGLE_NUMBERS: usize = 6;
+pub const SEGMENT_NUMBERS: usize = 6;
+pub const TRIANGLE_NUMBERS: usize = 9;
 
 pub const OFF_GRID: u64 = 1;
 pub const FLAT_SHAPE: u64 = 2;
@@ -60,11 +66,28 @@ impl ListFaults {
     }
 }
 
+/// How two shapes lie.
+pub enum Findings {
+    Plane(PlaneFindings),
+    Space(SpaceFindings),
+}
+
 /// How two triangles in the plane lie, by both methods.
-#[derive(Clone, Copy)]
-pub struct FlatFindings {
+pub struct PlaneFindings {
     pub contact: Contact,
     pub overlap: Overlap,
+}
+
+/// How two shapes in space lie, by both methods, and what makes the pair easy or hard.
+pub struct SpaceFindings {
+    /// How much of some edge of the first lies in the second, and of the second in the first.
+    pub reaches: [Reach; 2],
+    pub overlap: Overlap,
+    /// On which side of the second's plane each corner of the first lies, -1, 0 or 1; then, of two triangles, on which
+    /// side of the first's plane each corner of the second.
+    pub sides: Vec<i8>,
+    /// Along which axes the second isn't seen as a line only.
+    pub seen_along: [bool; 3],
 }
 
 /// An own answer, with what led to it.
@@ -73,7 +96,7 @@ pub struct Opinion {
     /// The answer by the other own method. A difference is a fault of this program.
     pub second_answer: Answer,
     pub faults: Vec<ListFaults>,
-    pub flat: Option<FlatFindings>,
+    pub findings: Option<Findings>,
 }
 
 impl Opinion {
@@ -82,7 +105,7 @@ impl Opinion {
             answer,
             second_answer: answer,
             faults,
-            flat: None,
+            findings: None,
         }
     }
 
@@ -92,7 +115,16 @@ impl Opinion {
             answer,
             second_answer,
             faults,
-            flat: None,
+            findings: None,
+        }
+    }
+
+    fn serving_space(findings: SpaceFindings, faults: Vec<ListFaults>) -> Opinion {
+        let value = u64::from(findings.reaches != [Reach::Nothing; 2]);
+        let second_value = u64::from(findings.overlap != Overlap::Apart);
+        Opinion {
+            findings: Some(Findings::Space(findings)),
+            ..Opinion::serving(value, second_value, faults)
         }
     }
 }
@@ -102,9 +134,9 @@ pub fn turn(points: &[i32]) -> Opinion {
     if let Some(answer) = first_refusal(&faults) {
         return Opinion::refusing(answer, faults);
     }
-    let [a, b, c] = flat_points(points);
-    let value = sign_number(geometry::turn_by_border_sum(a, b, c));
-    let second_value = sign_number(geometry::turn_by_formula(a, b, c));
+    let [a, b, c] = points_of(points);
+    let value = sign_number(signs::turn_by_border_sum(a, b, c));
+    let second_value = sign_number(signs::turn_by_formula(a, b, c));
     Opinion::serving(value, second_value, faults)
 }
 
@@ -113,9 +145,9 @@ pub fn side(points: &[i32]) -> Opinion {
     if let Some(answer) = first_refusal(&faults) {
         return Opinion::refusing(answer, faults);
     }
-    let [a, b, c, d] = [0, 1, 2, 3].map(|i| space_point(points, i));
-    let value = sign_number(geometry::side_by_cofactors(a, b, c, d));
-    let second_value = sign_number(geometry::side_by_formula(a, b, c, d));
+    let [a, b, c, d] = points_of(points);
+    let value = sign_number(signs::side_by_cofactors(a, b, c, d));
+    let second_value = sign_number(signs::side_by_formula(a, b, c, d));
     Opinion::serving(value, second_value, faults)
 }
 
@@ -124,16 +156,57 @@ pub fn flat(first: &[i32], second: &[i32]) -> Opinion {
     if let Some(answer) = first_refusal(&faults) {
         return Opinion::refusing(answer, faults);
     }
-    let (first, second) = (flat_points(first), flat_points(second));
-    let contact = geometry::contact_by_edges(&first, &second);
-    let overlap = geometry::overlap_by_axes(&first, &second);
+    let (first, second) = (points_of(first), points_of(second));
+    let contact = edges::contact(&first, &second);
+    let overlap = axes::flat_overlap(&first, &second);
     let value = u64::from(contact != Contact::Nothing);
     let second_value = u64::from(overlap != Overlap::Apart);
-    let flat = Some(FlatFindings { contact, overlap });
     Opinion {
-        flat,
+        findings: Some(Findings::Plane(PlaneFindings { contact, overlap })),
         ..Opinion::serving(value, second_value, faults)
     }
+}
+
+pub fn segment(first: &[i32], second: &[i32]) -> Opinion {
+    let faults = vec![segment_faults(first), triangle_faults(second)];
+    if let Some(answer) = first_refusal(&faults) {
+        return Opinion::refusing(answer, faults);
+    }
+    let (first, second): (Segment, Triangle) = (points_of(first), points_of(second));
+    let findings = SpaceFindings {
+        reaches: [clipping::reach(&first, &second), Reach::Nothing],
+        overlap: axes::overlap(&first, &second),
+        sides: sides(&first, &second).to_vec(),
+        seen_along: seen_along(&second),
+    };
+    Opinion::serving_space(findings, faults)
+}
+
+pub fn pair(first: &[i32], second: &[i32]) -> Opinion {
+    let faults = vec![triangle_faults(first), triangle_faults(second)];
+    if let Some(answer) = first_refusal(&faults) {
+        return Opinion::refusing(answer, faults);
+    }
+    let (first, second): (Triangle, Triangle) = (points_of(first), points_of(second));
+    let findings = SpaceFindings {
+        reaches: [
+            clipping::edge_reach(&first, &second),
+            clipping::edge_reach(&second, &first),
+        ],
+        overlap: axes::overlap(&first, &second),
+        sides: [sides(&first, &second), sides(&second, &first)].concat(),
+        seen_along: seen_along(&second),
+    };
+    Opinion::serving_space(findings, faults)
+}
+
+fn sides<const N: usize>(corners: &[Space; N], triangle: &Triangle) -> [i8; N] {
+    let [a, b, c] = *triangle;
+    corners.map(|corner| signs::side_by_formula(a, b, c, corner).signum() as i8)
+}
+
+fn seen_along(triangle: &Triangle) -> [bool; 3] {
+    [0, 1, 2].map(|axis| signs::shadow_turn(triangle, axis) != 0)
 }
 
 /// Wrong lengths come first, through all lists; then each list's own faults, list by list, a
@@ -169,20 +242,27 @@ fn point_faults(list: &[i32], wanted: usize) -> ListFaults {
 }
 
 fn flat_triangle_faults(list: &[i32]) -> ListFaults {
-    let mut faults = point_faults(list, FLAT_TRIANGLE_NUMBERS);
+    shape_faults(list, |[a, b, c]| signs::turn_by_border_sum(a, b, c) == 0)
+}
+
+fn segment_faults(list: &[i32]) -> ListFaults {
+    shape_faults(list, |[p, q]: Segment| p == q)
+}
+
+fn triangle_faults(list: &[i32]) -> ListFaults {
+    shape_faults(list, |corners| signs::is_on_one_line(&corners))
+}
+
+fn shape_faults<const D: usize, const N: usize>(list: &[i32], is_flat: fn([Point<D>; N]) -> bool) -> ListFaults {
+    let mut faults = point_faults(list, D * N);
     if faults.length.is_none() {
-        let [a, b, c] = flat_points(list);
-        faults.flat = geometry::turn_by_border_sum(a, b, c) == 0;
+        faults.flat = is_flat(points_of(list));
     }
     faults
 }
 
-fn flat_points(list: &[i32]) -> FlatTriangle {
-    [0, 1, 2].map(|i| -> Flat { [i128::from(list[2 * i]), i128::from(list[2 * i + 1])] })
-}
-
-fn space_point(list: &[i32], i: usize) -> Space {
-    [0, 1, 2].map(|k| i128::from(list[3 * i + k]))
+fn points_of<const D: usize, const N: usize>(list: &[i32]) -> [Point<D>; N] {
+    std::array::from_fn(|i| std::array::from_fn(|k| i128::from(list[D * i + k])))
 }
 
 /// A sign goes through the door as 0, 1, 2 for -1, 0, 1.

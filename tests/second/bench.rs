@@ -1,5 +1,5 @@
 //! The bench rows of document 01 that concern these calls, with their results as fixed numbers.
-//! Rows of triangles in the plane z = 0 are taken as flat pairs, with z left out.
+//! Rows of triangles in the plane z = 0 are taken as flat pairs as well, with z left out.
 
 use crate::answers::Answer;
 use crate::call::Call;
@@ -15,16 +15,26 @@ const PLUS_ONE: Answer = Answer::served(2);
 const APART: Answer = Answer::served(0);
 const MEETING: Answer = Answer::served(1);
 
-/// Piece A of document 01 without z.
-const A: [i32; 6] = [0, 0, 4, 0, 0, 4];
+/// Piece A of document 01, and A without z.
+const A: [i32; 9] = [0, 0, 0, 4, 0, 0, 0, 4, 0];
+const FLAT_A: [i32; 6] = [0, 0, 4, 0, 0, 4];
 const L: i32 = 524_288;
 
 pub fn rows() -> Vec<Row> {
-    let mut rows = vec![
-        flat("P4", A, [0, 0, 4, 0, 0, -4], MEETING),
+    let mut rows = flat_rows();
+    rows.extend(space_rows());
+    rows.extend(rows_of_flat_shapes());
+    rows.extend(rows_at_the_end_of_the_grid());
+    rows.extend(space_rows_at_the_end_of_the_grid());
+    rows
+}
+
+fn flat_rows() -> Vec<Row> {
+    vec![
+        flat("P4", FLAT_A, [0, 0, 4, 0, 0, -4], MEETING),
         flat("P5", [0, 0, 10, 0, 0, 10], [1, 1, 2, 1, 1, 2], MEETING),
-        flat("P6", A, [3, 3, 5, 3, 3, 5], APART),
-        flat("P8", A, A, MEETING),
+        flat("P6", FLAT_A, [3, 3, 5, 3, 3, 5], APART),
+        flat("P8", FLAT_A, FLAT_A, MEETING),
         turn("P10", [0, 0, 4, 0, 0, 4], PLUS_ONE),
         side("P11", [L, L, -L, L, -L, L, -L, L, L, -L, -L, -L], MINUS_ONE),
         side(
@@ -32,16 +42,42 @@ pub fn rows() -> Vec<Row> {
             [0, 0, 0, 1, 0, 0, 0, 1, 0, 0, 0, 1],
             MINUS_ONE,
         ),
-        flat("12", [0, 0, 1, 1, 2, 2], A, Answer::refused(2, 0, 0)),
-        flat(
-            "12 with the lists traded",
-            A,
-            [0, 0, 1, 1, 2, 2],
-            Answer::refused(2, 1, 0),
+    ]
+}
+
+fn space_rows() -> Vec<Row> {
+    let large = [0, 0, 0, 10, 0, 0, 0, 10, 0];
+    vec![
+        pair("P1", A, [1, 1, -1, 1, 1, 1, 5, 5, 1], MEETING),
+        pair("P2", A, [1, 1, 1, 2, 1, 1, 1, 2, 1], APART),
+        pair("P3", A, [4, 0, 0, 5, 0, 1, 5, 1, 1], MEETING),
+        pair("P4", A, [0, 0, 0, 4, 0, 0, 0, -4, 0], MEETING),
+        pair("P5", large, [1, 1, 0, 2, 1, 0, 1, 2, 0], MEETING),
+        pair("P6", A, [3, 3, 0, 5, 3, 0, 3, 5, 0], APART),
+        pair("P7", A, [2, 3, -1, 2, 3, 1, 5, 5, 0], APART),
+        pair("P8", A, A, MEETING),
+        segment("P9", [0, 0, 0, 1, 0, 0], A, MEETING),
+        pair(
+            "a pair that a well-known library gets wrong",
+            [2, -2, 3, 1, 1, 3, 2, 4, -1],
+            [2, 1, 1, -2, 3, 3, 2, -3, -1],
+            MEETING,
         ),
-    ];
-    rows.extend(rows_at_the_end_of_the_grid());
-    rows
+    ]
+}
+
+/// Row 12, in each call and each list that knows flat shapes.
+fn rows_of_flat_shapes() -> Vec<Row> {
+    let (line, flat_line) = ([0, 0, 0, 1, 1, 1, 2, 2, 2], [0, 0, 1, 1, 2, 2]);
+    let (first, second) = (Answer::refused(2, 0, 0), Answer::refused(2, 1, 0));
+    vec![
+        flat("12", flat_line, FLAT_A, first),
+        flat("12 with the lists traded", FLAT_A, flat_line, second),
+        segment("12 with a segment", [1, 1, 1, 1, 1, 1], A, first),
+        segment("12 with a segment and the line", [0, 0, 0, 1, 0, 0], line, second),
+        pair("12", line, A, first),
+        pair("12 with the lists traded", A, line, second),
+    ]
 }
 
 /// Row 13: 524,288 is served and 524,289 refused, in each call and each list, at both ends.
@@ -63,10 +99,27 @@ fn rows_at_the_end_of_the_grid() -> Vec<Row> {
             [0, 0, 0, 1, 0, 0, 0, 1, 0, 0, 0, -524_289],
             Answer::refused(1, 0, 11),
         ),
-        flat("13", [0, 0, 524_288, 0, 0, 4], A, MEETING),
-        flat("13", [0, 0, 524_289, 0, 0, 4], A, Answer::refused(1, 0, 2)),
-        flat("13", A, [0, 0, 4, 0, 0, -524_288], MEETING),
-        flat("13", A, [0, 0, 4, 0, 0, -524_289], Answer::refused(1, 1, 5)),
+        flat("13", [0, 0, 524_288, 0, 0, 4], FLAT_A, MEETING),
+        flat("13", [0, 0, 524_289, 0, 0, 4], FLAT_A, Answer::refused(1, 0, 2)),
+        flat("13", FLAT_A, [0, 0, 4, 0, 0, -524_288], MEETING),
+        flat("13", FLAT_A, [0, 0, 4, 0, 0, -524_289], Answer::refused(1, 1, 5)),
+    ]
+}
+
+fn space_rows_at_the_end_of_the_grid() -> Vec<Row> {
+    let edge = [0, 0, 0, 1, 0, 0];
+    let high = |z: i32| [0, 0, 0, 4, 0, 0, 0, 4, z];
+    vec![
+        segment("13", [1, 1, 0, 1, 1, 524_288], A, MEETING),
+        segment("13", [1, 1, 0, 1, 1, 524_289], A, Answer::refused(1, 0, 5)),
+        segment("13", [-524_288, 5, 5, -524_287, 5, 5], A, APART),
+        segment("13", [-524_289, 5, 5, -524_287, 5, 5], A, Answer::refused(1, 0, 0)),
+        segment("13", edge, high(-524_288), MEETING),
+        segment("13", edge, high(-524_289), Answer::refused(1, 1, 8)),
+        pair("13", high(524_288), A, MEETING),
+        pair("13", high(524_289), A, Answer::refused(1, 0, 8)),
+        pair("13", A, high(-524_288), MEETING),
+        pair("13", A, high(-524_289), Answer::refused(1, 1, 8)),
     ]
 }
 
@@ -90,6 +143,22 @@ fn flat(name: &'static str, first: [i32; 6], second: [i32; 6], answer: Answer) -
     Row {
         name,
         call: Call::Flat(first.to_vec(), second.to_vec()),
+        answer,
+    }
+}
+
+fn segment(name: &'static str, first: [i32; 6], second: [i32; 9], answer: Answer) -> Row {
+    Row {
+        name,
+        call: Call::Segment(first.to_vec(), second.to_vec()),
+        answer,
+    }
+}
+
+fn pair(name: &'static str, first: [i32; 9], second: [i32; 9], answer: Answer) -> Row {
+    Row {
+        name,
+        call: Call::Pair(first.to_vec(), second.to_vec()),
         answer,
     }
 }

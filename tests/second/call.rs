@@ -8,6 +8,8 @@ pub enum Call {
     Turn(Vec<i32>),
     Side(Vec<i32>),
     Flat(Vec<i32>, Vec<i32>),
+    Segment(Vec<i32>, Vec<i32>),
+    Pair(Vec<i32>, Vec<i32>),
 }
 
 impl Call {
@@ -16,6 +18,8 @@ impl Call {
             Call::Turn(points) => answers::turn(points),
             Call::Side(points) => answers::side(points),
             Call::Flat(first, second) => answers::flat(first, second),
+            Call::Segment(first, second) => answers::segment(first, second),
+            Call::Pair(first, second) => answers::pair(first, second),
         }
     }
 
@@ -25,6 +29,8 @@ impl Call {
             Call::Turn(points) => (Function::Turn, points, &[]),
             Call::Side(points) => (Function::Side, points, &[]),
             Call::Flat(first, second) => (Function::Flat, first, second),
+            Call::Segment(first, second) => (Function::Segment, first, second),
+            Call::Pair(first, second) => (Function::Pair, first, second),
         };
         Question {
             function,
@@ -68,18 +74,18 @@ impl Call {
 
 impl fmt::Display for Call {
     fn fmt(&self, f: &mut fmt::Formatter) -> fmt::Result {
-        match self {
-            Call::Turn(points) => write!(f, "zg_turn\n  points ({}): {points:?}", points.len()),
-            Call::Side(points) => write!(f, "zg_side\n  points ({}): {points:?}", points.len()),
-            Call::Flat(first, second) => {
-                write!(
-                    f,
-                    "zg_flat\n  first ({}): {first:?}\n  second ({}): {second:?}",
-                    first.len(),
-                    second.len()
-                )
-            }
+        let (name, lists): (_, Vec<(&str, &[i32])>) = match self {
+            Call::Turn(points) => ("turn", vec![("points", points)]),
+            Call::Side(points) => ("side", vec![("points", points)]),
+            Call::Flat(first, second) => ("flat", vec![("first", first), ("second", second)]),
+            Call::Segment(first, second) => ("segment", vec![("first", first), ("second", second)]),
+            Call::Pair(first, second) => ("pair", vec![("first", first), ("second", second)]),
+        };
+        write!(f, "zg_{name}")?;
+        for (place, list) in lists {
+            write!(f, "\n  {place} ({}): {list:?}", list.len())?;
         }
+        Ok(())
     }
 }
 

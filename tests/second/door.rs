@@ -74,9 +74,11 @@ pub enum Function {
     Turn,
     Side,
     Flat,
+    Segment,
+    Pair,
 }
 
-/// A function with the lists and the room to lend it. Only `Flat` takes a second list.
+/// A function with the lists and the room to lend it. `Turn` and `Side` take no second list.
 pub struct Question<'a> {
     pub function: Function,
     pub first: &'a [i32],

@@ -7,7 +7,7 @@
  * little-endian:
  *
  *     bytes 0 to 3     the mark of a frame, 0x7a670001
- *     bytes 4 to 7     the call: 1 zg_turn, 2 zg_side, 3 zg_flat
+ *     bytes 4 to 7     the call: 1 zg_turn, 2 zg_side, 3 zg_flat, 4 zg_segment, 5 zg_pair
  *     bytes 8 to 11    in a reply the result; in a request any number
  *     bytes 12 to 15   how many numbers the first list has
  *     bytes 16 to 19   how many numbers the second list has; 0 for zg_turn and zg_side
@@ -30,7 +30,7 @@
 
 #define MARK 0x7a670001u
 
-enum { TURN = 1, SIDE = 2, FLAT = 3 };
+enum { TURN = 1, SIDE = 2, FLAT = 3, SEGMENT = 4, PAIR = 5 };
 enum { LONGEST_LIST = 1024, LONGEST_ROOM = 64, BLOCK_BYTES = 1 << 20 };
 enum { ALL_SERVED = 0, MALFORMED = 1, NO_PIPE = 2 };
 enum { SYSTEM_READ = 0, SYSTEM_WRITE = 1, SYSTEM_EXIT = 231 };
@@ -126,8 +126,8 @@ static void write_all(const unsigned char *from, size_t size)
 
 static int is_well_formed(const struct head *head)
 {
-    uint32_t longest_second = head->call == FLAT ? LONGEST_LIST : 0;
-    return head->mark == MARK && head->call >= TURN && head->call <= FLAT && head->first_length <= LONGEST_LIST
+    uint32_t longest_second = head->call >= FLAT ? LONGEST_LIST : 0;
+    return head->mark == MARK && head->call >= TURN && head->call <= PAIR && head->first_length <= LONGEST_LIST
         && head->second_length <= longest_second && head->room_length <= LONGEST_ROOM
         && head->answer_start <= head->room_length && head->answer_length <= head->room_length - head->answer_start;
 }
@@ -149,8 +149,12 @@ static uint32_t make_call(const struct head *head, unsigned char *frame)
         return zg_turn(first, head->first_length, answer, head->answer_length);
     case SIDE:
         return zg_side(first, head->first_length, answer, head->answer_length);
-    default:
+    case FLAT:
         return zg_flat(first, head->first_length, second, head->second_length, answer, head->answer_length);
+    case SEGMENT:
+        return zg_segment(first, head->first_length, second, head->second_length, answer, head->answer_length);
+    default:
+        return zg_pair(first, head->first_length, second, head->second_length, answer, head->answer_length);
     }
 }
 

@@ -1,43 +1,73 @@
 //! Counts of the cases met by each call, the lines that report them, and the cases that were missed.
 
-use crate::answers::{FlatFindings, ListFaults, Opinion, OFF_GRID, WRONG_LENGTH};
-use crate::answers::{FLAT_TRIANGLE_NUMBERS, SIDE_NUMBERS, TURN_NUMBERS};
-use crate::geometry::{Contact, Overlap};
-use crate::inputs::LONGEST_BAD_LIST;
+mod meetings;
 
-/// What the values 0, 1, 2 of a call mean, which refusals it knows, on how many sides, and how many
-/// numbers each of its lists should hold.
+use crate::answers::{ListFaults, Opinion, OFF_GRID, WRONG_LENGTH};
+use crate::answers::{FLAT_TRIANGLE_NUMBERS, SEGMENT_NUMBERS, SIDE_NUMBERS, TRIANGLE_NUMBERS, TURN_NUMBERS};
+use crate::inputs::LONGEST_BAD_LIST;
+use meetings::Meetings;
+
+/// What the values 0, 1, 2 of a call mean, which refusals it knows, how many numbers each of its lists should hold, and
+/// what shapes these make.
 pub struct Cases {
     pub call: &'static str,
-    pub list_numbers: usize,
+    /// What its inputs are called, in plural.
+    pub inputs: &'static str,
+    pub list_numbers: &'static [usize],
     pub values: &'static [&'static str],
     pub refusals: &'static [u64],
-    pub sides: usize,
+    pub shapes: Shapes,
+}
+
+#[derive(Clone, Copy)]
+pub enum Shapes {
+    Points,
+    FlatTriangles,
+    SegmentAndTriangle,
+    Triangles,
 }
 
 pub const TURN: Cases = Cases {
     call: "turn",
-    list_numbers: TURN_NUMBERS,
+    inputs: "turns",
+    list_numbers: &[TURN_NUMBERS],
     values: &["-1", "0", "1"],
     refusals: &[1, 3],
-    sides: 1,
+    shapes: Shapes::Points,
 };
 pub const SIDE: Cases = Cases {
     call: "side",
-    list_numbers: SIDE_NUMBERS,
-    values: &["-1", "0", "1"],
-    refusals: &[1, 3],
-    sides: 1,
+    inputs: "sides",
+    list_numbers: &[SIDE_NUMBERS],
+    ..TURN
 };
 pub const FLAT: Cases = Cases {
     call: "flat",
-    list_numbers: FLAT_TRIANGLE_NUMBERS,
+    inputs: "flat pairs",
+    list_numbers: &[FLAT_TRIANGLE_NUMBERS, FLAT_TRIANGLE_NUMBERS],
     values: &["apart", "meeting"],
     refusals: &[1, 2, 3],
-    sides: 2,
+    shapes: Shapes::FlatTriangles,
+};
+pub const SEGMENT: Cases = Cases {
+    call: "segment",
+    inputs: "segment pairs",
+    list_numbers: &[SEGMENT_NUMBERS, TRIANGLE_NUMBERS],
+    shapes: Shapes::SegmentAndTriangle,
+    ..FLAT
+};
+pub const PAIR: Cases = Cases {
+    call: "pair",
+    inputs: "space pairs",
+    list_numbers: &[TRIANGLE_NUMBERS, TRIANGLE_NUMBERS],
+    shapes: Shapes::Triangles,
+    ..FLAT
 };
 
 const REFUSAL_NUMBERS: usize = 4;
+
+/// A case and how often it was met.
+type Count = (String, u64);
 
 pub struct Tally {
     cases: Cases,
@@ -47,26 +77,23 @@ pub struct Tally {
     refusals: [[u64; 2]; REFUSAL_NUMBERS],
     /// The places that each refusal gave, by number and side.
     places: [[[bool; LONGEST_BAD_LIST + 1]; 2]; REFUSAL_NUMBERS],
-    pairs: PairTally,
+    mixtures: FaultMixtures,
+    meetings: Meetings,
 }
 
-/// What only calls with two lists can show.
+/// What only calls with two lists can show of faults.
 #[derive(Default)]
-struct PairTally {
-    edges_meet: u64,
-    first_inside: u64,
-    second_inside: u64,
-    border_only: u64,
-    common_area: u64,
+struct FaultMixtures {
     /// By the fault of the first list alone and that of the second alone.
-    fault_pairs: [[u64; REFUSAL_NUMBERS]; REFUSAL_NUMBERS],
-    /// Refused for the grid, with a triangle that is flat as well; by side.
+    pairs: [[u64; REFUSAL_NUMBERS]; REFUSAL_NUMBERS],
+    /// Refused for the grid, with a shape that is flat as well; by side.
     off_grid_and_flat: [u64; 2],
 }
 
 impl Tally {
     pub fn new(cases: Cases) -> Tally {
-        let (values, refusals, places, pairs) = Default::default();
+        let (values, refusals, places, mixtures) = Default::default();
+        let meetings = Meetings::of(cases.shapes);
         Tally {
             cases,
             compared: 0,
@@ -74,12 +101,17 @@ impl Tally {
             values,
             refusals,
             places,
-            pairs,
+            mixtures,
+            meetings,
         }
     }
 
     pub fn name(&self) -> &'static str {
         self.cases.call
+    }
+
+    pub fn inputs(&self) -> &'static str {
+        self.cases.inputs
     }
 
     pub fn note(&mut self, opinion: &Opinion, too_short: bool) {
@@ -97,14 +129,14 @@ impl Tally {
             self.refusals[number][side] += 1;
             self.places[number][side][answer.place as usize] = true;
         }
-        if let [first, second] = opinion.faults[..] {
-            self.pairs.note_faults(&first, &second);
-            if answer.number == 1 && opinion.faults[answer.side as usize].flat {
-                self.pairs.off_grid_and_flat[answer.side as usize] += 1;
+        if let [first, second] = &opinion.faults[..] {
+            self.mixtures.note(first, second);
+            if answer.number == OFF_GRID && opinion.faults[answer.side as usize].flat {
+                self.mixtures.off_grid_and_flat[answer.side as usize] += 1;
             }
         }
-        if let Some(findings) = &opinion.flat {
-            self.pairs.note_findings(findings);
+        if let Some(findings) = &opinion.findings {
+            self.meetings.note(findings);
         }
     }
 
@@ -125,8 +157,9 @@ impl Tally {
     /// The cases that a large run must have met and didn't.
     pub fn missed(&self, with_refusals: bool) -> Vec<String> {
         let mut counts = self.counts(with_refusals);
-        if with_refusals && self.cases.sides == 2 {
-            counts.extend(self.pairs.fault_pair_counts());
+        counts.extend(self.meetings.fine_counts());
+        if with_refusals && self.sides() == 2 {
+            counts.extend(self.mixtures.counts());
         }
         let missed = counts.into_iter().filter(|(_, count)| *count == 0);
         let mut missed: Vec<String> = missed.map(|(name, _)| format!("{}: {name}", self.cases.call)).collect();
@@ -136,14 +169,17 @@ impl Tally {
         missed
     }
 
+    fn sides(&self) -> usize {
+        self.cases.list_numbers.len()
+    }
+
     /// Each position of a list must have been the lowest bad one, and each wrong length given.
     fn missed_places(&self) -> Vec<String> {
-        let numbers = self.cases.list_numbers;
-        let positions = (0..numbers).map(|place| (OFF_GRID, place));
-        let lengths = (0..=LONGEST_BAD_LIST).filter(|length| *length != numbers);
         let mut missed = Vec::new();
-        for (number, place) in positions.chain(lengths.map(|length| (WRONG_LENGTH, length))) {
-            for side in 0..self.cases.sides {
+        for (side, &numbers) in self.cases.list_numbers.iter().enumerate() {
+            let positions = (0..numbers).map(|place| (OFF_GRID, place));
+            let lengths = (0..=LONGEST_BAD_LIST).filter(|length| *length != numbers);
+            for (number, place) in positions.chain(lengths.map(|length| (WRONG_LENGTH, length))) {
                 if !self.places[number as usize][side][place] {
                     missed.push(format!(
                         "{}: refusal {number} side {side} place {place}",
@@ -155,15 +191,13 @@ impl Tally {
         missed
     }
 
-    fn counts(&self, with_refusals: bool) -> Vec<(String, u64)> {
+    fn counts(&self, with_refusals: bool) -> Vec<Count> {
         let names = self.cases.values.iter().map(|name| name.to_string());
         let mut counts: Vec<_> = names.zip(self.values).collect();
-        if self.cases.sides == 2 {
-            counts.extend(self.pairs.meeting_counts());
-        }
+        counts.extend(self.meetings.counts());
         if with_refusals {
             for &number in self.cases.refusals {
-                for side in 0..self.cases.sides {
+                for side in 0..self.sides() {
                     let count = self.refusals[number as usize][side];
                     counts.push((format!("refusal {number} side {side}"), count));
                 }
@@ -174,39 +208,14 @@ impl Tally {
     }
 }
 
-impl PairTally {
-    fn note_faults(&mut self, first: &ListFaults, second: &ListFaults) {
-        self.fault_pairs[first.number_alone() as usize][second.number_alone() as usize] += 1;
+impl FaultMixtures {
+    fn note(&mut self, first: &ListFaults, second: &ListFaults) {
+        self.pairs[first.number_alone() as usize][second.number_alone() as usize] += 1;
     }
 
-    fn note_findings(&mut self, findings: &FlatFindings) {
-        match findings.contact {
-            Contact::EdgesMeet => self.edges_meet += 1,
-            Contact::FirstInsideSecond => self.first_inside += 1,
-            Contact::SecondInsideFirst => self.second_inside += 1,
-            Contact::Nothing => {}
-        }
-        match findings.overlap {
-            Overlap::BorderOnly => self.border_only += 1,
-            Overlap::Area => self.common_area += 1,
-            Overlap::Apart => {}
-        }
-    }
-
-    fn meeting_counts(&self) -> Vec<(String, u64)> {
-        let counts = [
-            ("by edges", self.edges_meet),
-            ("by first inside second", self.first_inside),
-            ("by second inside first", self.second_inside),
-            ("with borders only", self.border_only),
-            ("with common area", self.common_area),
-        ];
-        counts.map(|(name, count)| (name.to_string(), count)).to_vec()
-    }
-
-    fn fault_pair_counts(&self) -> Vec<(String, u64)> {
+    fn counts(&self) -> Vec<Count> {
         let mut counts = Vec::new();
-        for (first, row) in self.fault_pairs.iter().enumerate() {
+        for (first, row) in self.pairs.iter().enumerate() {
             for (second, count) in row.iter().enumerate() {
                 counts.push((
                     format!("fault {first} in the first list with fault {second} in the second"),

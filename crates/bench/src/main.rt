@@ -12,6 +12,9 @@ use predicate::VerdictAnswer;
 // P11's L, the end of the grid.
 const L: i32 = 524_288;
 
+// Document 01's piece A, in space.
+const A: [i32; 9] = [0, 0, 0, 4, 0, 0, 0, 4, 0];
+
 fn say(text: &[u8]) {
     io::write_all(STDOUT_FILENO, text);
 }
@@ -98,28 +101,73 @@ fn flat_row(row: &[u8], first: &[i32], second: &[i32]) {
     say(b"\n");
 }
 
-// The rows of document 01 that the calls answer so far; those of one plane with z dropped.
-fn table_rows() {
+fn segment_row(row: &[u8], segment: &[i32], triangle: &[i32]) {
+    say(row);
+    say(b": ");
+    say_verdict(predicate::segment_verdict(segment, triangle));
+    say(b"\n");
+}
+
+fn pair_row(row: &[u8], first: &[i32], second: &[i32]) {
+    say(row);
+    say(b": ");
+    say_verdict(predicate::pair_verdict(first, second));
+    say(b"\n");
+}
+
+// Document 01's rows of verdicts.
+fn verdict_table_rows() {
     say(b"Rows of the bench table\n");
-    flat_row(
-        b"P5   flat (0,0) (10,0) (0,10); (1,1) (2,1) (1,2)",
-        &[0, 0, 10, 0, 0, 10],
-        &[1, 1, 2, 1, 1, 2],
+    pair_row(
+        b"P1   A; (1,1,-1) (1,1,1) (5,5,1)",
+        &A,
+        &[1, 1, -1, 1, 1, 1, 5, 5, 1],
     );
-    flat_row(
-        b"P6   flat A; (3,3) (5,3) (3,5)",
-        &[0, 0, 4, 0, 0, 4],
-        &[3, 3, 5, 3, 3, 5],
+    pair_row(
+        b"P2   A; (1,1,1) (2,1,1) (1,2,1)",
+        &A,
+        &[1, 1, 1, 2, 1, 1, 1, 2, 1],
     );
+    pair_row(
+        b"P3   A; (4,0,0) (5,0,1) (5,1,1)",
+        &A,
+        &[4, 0, 0, 5, 0, 1, 5, 1, 1],
+    );
+    pair_row(
+        b"P4   A; (0,0,0) (4,0,0) (0,-4,0)",
+        &A,
+        &[0, 0, 0, 4, 0, 0, 0, -4, 0],
+    );
+    pair_row(
+        b"P5   (0,0,0) (10,0,0) (0,10,0); (1,1,0) (2,1,0) (1,2,0)",
+        &[0, 0, 0, 10, 0, 0, 0, 10, 0],
+        &[1, 1, 0, 2, 1, 0, 1, 2, 0],
+    );
+    pair_row(
+        b"P6   A; (3,3,0) (5,3,0) (3,5,0)",
+        &A,
+        &[3, 3, 0, 5, 3, 0, 3, 5, 0],
+    );
+    pair_row(
+        b"P7   A; (2,3,-1) (2,3,1) (5,5,0)",
+        &A,
+        &[2, 3, -1, 2, 3, 1, 5, 5, 0],
+    );
+    pair_row(b"P8   A; A", &A, &A);
+    segment_row(b"P9   segment (0,0,0) (1,0,0); A", &[0, 0, 0, 1, 0, 0], &A);
+}
+
+// Its rows of signs, and of refusals.
+fn sign_table_rows() {
     turn_row(b"P10  turn of (0,0) (4,0) (0,4)", &[0, 0, 4, 0, 0, 4]);
     side_row(
         b"P11  side of (L,L,-L) (L,-L,L) (-L,L,L) (-L,-L,-L)",
         &[L, L, -L, L, -L, L, -L, L, L, -L, -L, -L],
     );
-    flat_row(
-        b"12   flat (0,0) (1,1) (2,2); A",
-        &[0, 0, 1, 1, 2, 2],
-        &[0, 0, 4, 0, 0, 4],
+    pair_row(
+        b"12   (0,0,0) (1,1,1) (2,2,2); A",
+        &[0, 0, 0, 1, 1, 1, 2, 2, 2],
+        &A,
     );
     turn_row(b"13   turn with a coordinate 524,288", &[0, 0, L, 0, 0, 4]);
     turn_row(
@@ -133,6 +181,16 @@ fn table_rows() {
     side_row(
         b"13   side with a coordinate 524,289",
         &[0, 0, 0, L + 1, 0, 0, 0, 1, 0, 0, 0, 1],
+    );
+    pair_row(
+        b"13   A; with a coordinate 524,288",
+        &A,
+        &[0, 0, 0, 0, 0, L, 4, 0, 0],
+    );
+    pair_row(
+        b"13   A; with a coordinate 524,289",
+        &A,
+        &[0, 0, 0, 0, 0, L + 1, 4, 0, 0],
     );
 }
 
@@ -251,10 +309,66 @@ fn flat_refusals() {
     flat_row(b"A; flat", &[0, 0, 4, 0, 0, 4], &[5, 5, 1, 1, 3, 3]);
 }
 
+// Triangles in space: corners on the other's plane, planes that stand upright, the ends of the grid, and refusals in their order.
+fn pair_rows() {
+    say(b"Further rows of the test in space\n");
+    pair_row(
+        b"a corner on the other's plane",
+        &[2, -2, 3, 1, 1, 3, 2, 4, -1],
+        &[2, 1, 1, -2, 3, 3, 2, -3, -1],
+    );
+    pair_row(
+        b"in one upright plane, one inside the other",
+        &[5, 0, 0, 5, 9, 0, 5, 0, 9],
+        &[5, 1, 1, 5, 2, 1, 5, 1, 2],
+    );
+    pair_row(
+        b"in one upright plane, apart",
+        &[0, 5, 0, 4, 5, 0, 0, 5, 4],
+        &[3, 5, 3, 5, 5, 3, 3, 5, 5],
+    );
+    pair_row(
+        b"from end to end of the grid, one point in common",
+        &[-L, -L, -L, L, L, L, L, -L, 0],
+        &[0, 0, 0, -L, L, L, -L, L, -L],
+    );
+    pair_row(b"no numbers; no numbers", &[], &[]);
+    pair_row(
+        b"off the grid; 6 numbers",
+        &[L + 1, 0, 0, 4, 0, 0, 0, 4, 0],
+        &[0, 0, 0, 4, 0, 0],
+    );
+    pair_row(
+        b"flat; off the grid",
+        &[0, 0, 0, 4, 0, 0, 8, 0, 0],
+        &[0, 0, 0, 4, 0, 0, 0, 4, L + 1],
+    );
+    pair_row(b"A; flat", &A, &[1, 2, 3, 1, 2, 3, 0, 4, 0]);
+}
+
+// A segment and a triangle in space.
+fn segment_rows() {
+    say(b"Further rows of the segment test\n");
+    segment_row(b"through A", &[1, 1, -1, 1, 1, 1], &A);
+    segment_row(b"past A", &[3, 3, -1, 3, 3, 1], &A);
+    segment_row(b"ending on an edge of A", &[2, 2, 5, 2, 2, 0], &A);
+    segment_row(b"in the plane of A, past it", &[5, 0, 0, 0, 5, 0], &A);
+    segment_row(b"equal ends; A", &[1, 1, 0, 1, 1, 0], &A);
+    segment_row(b"A; a segment", &A, &[1, 1, -1, 1, 1, 1]);
+    segment_row(
+        b"equal ends off the grid; A",
+        &[0, 0, L + 1, 0, 0, L + 1],
+        &A,
+    );
+}
+
 fn main() {
-    table_rows();
+    verdict_table_rows();
+    sign_table_rows();
     turn_rows();
     side_rows();
     flat_rows();
     flat_refusals();
+    pair_rows();
+    segment_rows();
 }

@@ -8,7 +8,8 @@ use lib.IntN.{ℤ}
 use Rattle.predicate.specs.Answers.{Answer, withServed}
 use Rattle.predicate.specs.Rules.{signRule}
 use Rattle.predicate.proofs.Unique.{rule-fixed}
-use Rattle.door.specs.Numbers.{signCode, verdictCode, fourNumbers}
+use Rattle.shape.specs.Signs.{digit}
+use Rattle.door.specs.Numbers.{verdictCode, fourNumbers}
 use Rattle.door.specs.Buffer.{Written, VerdictWritten}
 
 -- Whatever the numbers are.
@@ -19,11 +20,11 @@ written-unique w v = (w .gives ∙ sym (v .gives), w .leaves ∙ sym (v .leaves)
 -- Two results that meet the contract of `zg_turn` (n = 2) or of `zg_side` (n = 3), for the same points and the same buffer
 -- before, are equal, and so are the buffers that they leave.
 pub sign-door-unique : (n : ℕ) (points : List ℤ) (before : List ℕ) (r s : ℕ) (after after′ : List ℕ) →
-    Written (fourNumbers (withServed signCode (signRule n points))) before r after →
-    Written (fourNumbers (withServed signCode (signRule n points))) before s after′ → (r ≡ s) × (after ≡ after′)
+    Written (fourNumbers (withServed digit (signRule n points))) before r after →
+    Written (fourNumbers (withServed digit (signRule n points))) before s after′ → (r ≡ s) × (after ≡ after′)
 sign-door-unique n points before r s after after′ w v = written-unique w v
 
--- The same of the door of a verdict call (`zg_flat` has n = 2, k = m = 3).
+-- The same of the door of a verdict call (`zg_flat` has n = 2, k = m = 3; `zg_segment` n = 3, k = 2, m = 3; `zg_pair` n = k = m = 3).
 pub verdict-door-unique : (n k m : ℕ) (first second : List ℤ) (before : List ℕ) (r s : ℕ) (after after′ : List ℕ) →
     VerdictWritten n k m first second before r after → VerdictWritten n k m first second before s after′ → (r ≡ s) × (after ≡ after′)
 verdict-door-unique n k m first second before r s after after′ w v =

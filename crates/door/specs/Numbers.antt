@@ -1,17 +1,11 @@
 -- The four numbers that a door writes for an answer: refusal number, side, place, and the value, which is 0 where the call
--- refuses. What a call serves is given by a number of its own: `signCode` gives a sign, `verdictCode` a verdict.
+-- refuses. What a call serves is given by a number of its own: a sign by its digit, a verdict by
+-- `verdictCode`.
 use mathlib.Core.Bool.{Bool, true, false}
 use mathlib.Core.List.{List, [], _∷_}
-use Prim.Native.Nat.{ℕ, zero, suc}
-use lib.IntN.{ℤ, pos, negsuc}
+use Prim.Native.Nat.{ℕ}
 use Rattle.predicate.specs.Answers.{Answer, served, refused, numberOf, sideOf, placeOf}
 use Rattle.door.specs.declared.numbers.Numbers.{Numbers}
-
--- A sign, -1, 0 or 1, as 0, 1 or 2.
-abbrev pub signCode : ℤ → ℕ
-signCode (negsuc n) = 0
-signCode (pos zero) = 1
-signCode (pos (suc n)) = 2
 
 -- Apart, no, as 0; meeting, yes, as 1.
 abbrev pub verdictCode : Bool → ℕ

@@ -10,3 +10,5 @@ mod verdicts;
 pub use signs::zg_side;
 pub use signs::zg_turn;
 pub use verdicts::zg_flat;
+pub use verdicts::zg_pair;
+pub use verdicts::zg_segment;

@@ -9,12 +9,13 @@ ghost use mathlib.Core.Path.{_≡_};
 ghost use Rattle.predicate.specs.Answers.{withServed};
 ghost use Rattle.predicate.specs.Rules.{signRule};
 ghost use Rattle.predicate.specs.Told.{signNumber, toldSign};
-ghost use Rattle.door.specs.Numbers.{signCode, fourNumbers, listed};
+ghost use Rattle.shape.specs.Signs.{digit};
+ghost use Rattle.door.specs.Numbers.{fourNumbers, listed};
 ghost use Rattle.door.specs.Buffer.{Written};
 
 // The number of a sign.
 fn sign_code(sign: Sign) -> u64
-    ensures { λ r. ⌜ r ≡ signCode (signNumber sign) ⌝ }
+    ensures { λ r. ⌜ r ≡ digit (signNumber sign) ⌝ }
 {
     match sign {
         Sign::Negative => 0,
@@ -25,7 +26,7 @@ fn sign_code(sign: Sign) -> u64
 
 // The numbers of a sign call's answer.
 fn sign_numbers(told: SignAnswer) -> Numbers
-    ensures { λ r. ⌜ listed r ≡ fourNumbers (withServed signCode (toldSign told)) ⌝ }
+    ensures { λ r. ⌜ listed r ≡ fourNumbers (withServed digit (toldSign told)) ⌝ }
 {
     match told {
         SignAnswer::Refused(why) => refused_numbers(why),
@@ -36,7 +37,7 @@ fn sign_numbers(told: SignAnswer) -> Numbers
 // The flat turn sign of six numbers, three points.
 #[no_mangle]
 pub extern "C" fn zg_turn(points: &[i32], answer: &mut [u64]) -> u32
-    ensures { λ r. ⌜ Written (fourNumbers (withServed signCode (signRule 2 (now (points .entry))))) (now (answer .entry)) r (now (answer .exit)) ⌝ }
+    ensures { λ r. ⌜ Written (fourNumbers (withServed digit (signRule 2 (now (points .entry))))) (now (answer .entry)) r (now (answer .exit)) ⌝ }
 {
     put(answer, sign_numbers(predicate::turn_sign(points)))
 }
@@ -44,7 +45,7 @@ pub extern "C" fn zg_turn(points: &[i32], answer: &mut [u64]) -> u32
 // The spatial side sign of twelve numbers, four points.
 #[no_mangle]
 pub extern "C" fn zg_side(points: &[i32], answer: &mut [u64]) -> u32
-    ensures { λ r. ⌜ Written (fourNumbers (withServed signCode (signRule 3 (now (points .entry))))) (now (answer .entry)) r (now (answer .exit)) ⌝ }
+    ensures { λ r. ⌜ Written (fourNumbers (withServed digit (signRule 3 (now (points .entry))))) (now (answer .entry)) r (now (answer .exit)) ⌝ }
 {
     put(answer, sign_numbers(predicate::side_sign(points)))
 }

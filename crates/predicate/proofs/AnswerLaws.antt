@@ -1,9 +1,11 @@
 -- Laws of answers: what they tell, and the checks that stand before them (specs/Answers.antt, specs/Told.antt). Assumes nothing.
-use mathlib.Core.Path.{_≡_, refl, sym}
+use mathlib.Core.Path.{_≡_, refl, sym, ap, _∙_}
 use Prim.Native.Nat.{ℕ}
 use native.Mathlib.Omega.{arith}
 use Rattle.predicate.specs.Answers.{Answer, served, refused, Check, fine, _then_, withServed}
-use Rattle.predicate.specs.Told.{toldRefusal}
+use Rattle.predicate.specs.Told.{toldRefusal, toldCheck}
+use Rattle.predicate.specs.declared.grid.Checked.{Checked}
+use Rattle.predicate.specs.declared.grid.Checked.the-variants.{Fine, Refused as CheckRefused}
 use Rattle.predicate.specs.declared.answer.Refusal.{Refusal}
 
 -- Served and refused are never the same.
@@ -32,6 +34,14 @@ then-refused (refused number side place) a why e =
 pub then-served : {A : Type 0} (c : Check) (a b : A) → served b ≡ (c then served a) → (c ≡ fine) × (b ≡ a)
 then-served (served u) a b e = (refl, cc)
 then-served (refused number side place) a b e = let z : _≡_ {A = ℕ} 0 1 = cc in absurd (omega arith)
+
+-- A check x, as code found it, and then y: what it refuses is refused, and where it is fine y answers.
+pub stopped : {A : Type 0} {found : Checked} {x : Check} (y : Answer A) (why : Refusal) → toldCheck found ≡ x → found ≡ CheckRefused why →
+    toldRefusal why ≡ (x then y)
+stopped y why e f = sym (ap (λ (z : Check). z then y) (sym e ∙ ap toldCheck f))
+
+pub passed-on : {A : Type 0} {found : Checked} {x : Check} (y : Answer A) {a : Answer A} → toldCheck found ≡ x → found ≡ Fine → a ≡ y → a ≡ (x then y)
+passed-on y e f g = g ∙ sym (ap (λ (z : Check). z then y) (sym e ∙ ap toldCheck f))
 
 -- Two checks are fine together where each is.
 pub then-fine : (x y : Check) → (x then y) ≡ fine → (x ≡ fine) × (y ≡ fine)

@@ -16,6 +16,7 @@ pub mod CheckLaws
 pub mod Branches
 pub mod PairLaws
 pub mod PlaneLaws
+pub mod SpaceLaws
 pub mod Exactly
 pub mod ValueLaws
 pub mod PairTable

@@ -1,19 +1,26 @@
 -- Coordinates as the code holds them: each is the whole number that is meant, and no larger than the grid allows. Here stand
 -- the readings of a coordinate, of a difference, of products and of a vector, which the leaves' proofs put together.
 -- Assumes nothing.
-use mathlib.Core.Path.{_≡_, refl}
+use mathlib.Core.Path.{_≡_, refl, sym, ap, _∙_}
+use mathlib.Core.Bool.{Bool, true, false}
 use mathlib.Core.List.{[], _∷_}
-use Prim.Native.Nat.{ℕ, zero, suc, _+_, _*_, _^_, _≤_}
+use Prim.Native.Nat.{ℕ, zero, suc, _+_, _*_, _^_, _≤_, _<_}
 use native.Mathlib.Omega.{arith}
-use lib.Dec.{T, ltb}
-use lib.IntN.{ℤ, natAbs, _+ℤ_, _-ℤ_, _*ℤ_}
+use borrow.Author.Tests.{eqb-true, eqb-false}
+use lib.Dec.{T, ltb, eqb}
+use lib.IntN.{ℤ, pos, natAbs, _+ℤ_, _-ℤ_, _*ℤ_, +ℤ-invr}
+use lib.Signed.{mag}
 use mir.Syntax.{w64}
 use mir.Val.{toZ, ofZ, hbits}
 use Rattle.algebra.proofs.Solver.{ring}
 use Rattle.algebra.proofs.Expression.{_⊞_, _⊠_}
-use Rattle.algebra.proofs.Machine.{Reads, exact, held, size, sum, difference, product}
+use Rattle.algebra.proofs.Order.{eq-of-sub}
+use Rattle.algebra.proofs.Machine.{Reads, exact, held, returned, size, sum, difference, product}
 use Rattle.shape.specs.Points.{Point, coord}
 use Rattle.shape.specs.Signs.{turn, minor, determinant}
+use Rattle.shape.specs.Flat.{isZero}
+use Rattle.shape.proofs.FlatLaws.{zero-says}
+use Rattle.shape.proofs.VerdictLaws.{says-no, says-fixed}
 use Rattle.shape.proofs.Symbols.{values, point, minorE, determinantE}
 use Rattle.predicate.specs.Grid.{limit}
 use Rattle.predicate.specs.Vectors.{Sized, differenceSize, minorSize, minors, dot}
@@ -90,3 +97,44 @@ determinant-by-minors u v w =
     ring (values (u ∷ v ∷ w ∷ []))
     (point 0 0 ⊠ minorE 1 2 (point 1) (point 2) ⊞ point 0 1 ⊠ minorE 2 0 (point 1) (point 2) ⊞ point 0 2 ⊠ minorE 0 1 (point 1) (point 2))
     (determinantE (point 0) (point 1) (point 2)) tt refl
+
+-- ---- what the machine's tests of equality tell
+-- A test of two numbers by their bits is one of the whole numbers.
+by-bits : (x y : ℕ) (t : Bool) → (x ≡ y → t ≡ true) → ((x ≡ y → ⊥) → t ≡ false) → eqb x y ≡ t
+by-bits x y t same other = by-test (eqb x y) refl
+  where
+    by-test : (b : Bool) → eqb x y ≡ b → eqb x y ≡ t
+    by-test true e = e ∙ sym (same (eqb-true x y e))
+    by-test false e = e ∙ sym (other (eqb-false x y e))
+
+pub zero-test : {z : ℤ} → z ≡ pos 0 → isZero z ≡ true
+zero-test e = ap isZero e
+
+pub not-zero-test : (z : ℤ) → (z ≡ pos 0 → ⊥) → isZero z ≡ false
+not-zero-test z h = says-fixed (zero-says z) (says-no h)
+
+-- A value that is the z of its contract, against 0.
+module _ {r z : ℤ} (fits : mag r < 2 ^ hbits w64) (e : r ≡ z) where
+  pub zero-kept : ofZ w64 r ≡ 0 → z ≡ pos 0
+  zero-kept h = sym (returned w64 fits e) ∙ ap (toZ w64) h
+
+  pub not-zero-kept : (ofZ w64 r ≡ 0 → ⊥) → z ≡ pos 0 → ⊥
+  not-zero-kept h f = h (ap (ofZ w64) (e ∙ f))
+
+  pub zero-kept-test : eqb (ofZ w64 r) 0 ≡ isZero z
+  zero-kept-test = by-bits (ofZ w64 r) 0 (isZero z) (λ h. zero-test (zero-kept h)) (λ h. not-zero-test z (not-zero-kept h))
+
+-- Coordinate i of two points.
+module _ {a b : Point} (s : Sized limit a) (r : Sized limit b) (i : ℕ) where
+  abbrev equal : Bool
+  equal = isZero (coord i b -ℤ coord i a)
+
+  pub same-kept : ofZ w64 (coord i a) ≡ ofZ w64 (coord i b) → equal ≡ true
+  same-kept h =
+      zero-test (ap (λ (z : ℤ). coord i b -ℤ z) (sym (coordinate tt s i .is) ∙ ap (toZ w64) h ∙ coordinate tt r i .is) ∙ +ℤ-invr (coord i b))
+
+  pub not-same-kept : (ofZ w64 (coord i a) ≡ ofZ w64 (coord i b) → ⊥) → equal ≡ false
+  not-same-kept h = not-zero-test (coord i b -ℤ coord i a) (λ e. h (ap (ofZ w64) (eq-of-sub (coord i a) (coord i b) e)))
+
+  pub same-kept-test : eqb (ofZ w64 (coord i a)) (ofZ w64 (coord i b)) ≡ equal
+  same-kept-test = by-bits (ofZ w64 (coord i a)) (ofZ w64 (coord i b)) equal same-kept not-same-kept

@@ -1,27 +1,27 @@
--- The vocabulary of the leaves in src/plane.rt: triangles of the plane as the code holds them, and what reading and testing them
--- is to give, by the decisions of crate `shape` (specs/PlaneTest.antt).
-use mathlib.Core.Bool.{Bool}
-use mathlib.Core.List.{List, [], _∷_}
-use Prim.Native.Nat.{ℕ}
-use lib.IntN.{ℤ}
-use Rattle.shape.specs.Points.{Point, Shape, pointAt}
-use Rattle.shape.specs.PlaneTest.{leftOrder, inLeftOrder, triangleSorted, triangleTest}
-use Rattle.predicate.specs.Answers.{Answer, served, _then_}
-use Rattle.predicate.specs.Rules.{shapeChecks}
+-- The vocabulary of the leaves in src/plane.rt: triangles of the plane as the code holds them, and the decisions of crate `shape`
+-- (specs/PlaneTest.antt) on their corners.
+use mathlib.Core.Path.{_≡_}
+use mathlib.Core.Bool.{Bool, true, cond}
+use Prim.Native.Nat.{ℕ, zero, suc}
+use Rattle.shape.specs.Points.{Point}
+use Rattle.shape.specs.PlaneTest.{isRight, sorted}
+use Rattle.predicate.specs.Grid.{limit}
 use Rattle.predicate.specs.Vectors.{planar, Sized}
 use Rattle.predicate.specs.declared.plane.PlaneTriangle.{PlaneTriangle}
+use Rattle.predicate.specs.declared.plane.Sorted.{Sorted}
 
--- The corners of a triangle.
-abbrev pub planeCorners : PlaneTriangle → Shape
-planeCorners t = planar (t .p) ∷ planar (t .q) ∷ planar (t .r) ∷ []
+-- The corners of t are a, b and c.
+pub record PlaneAt (a b c : Point) (t : PlaneTriangle) : Type 0 where
+  pub at-p : planar (t .p) ≡ a
+  pub at-q : planar (t .q) ≡ b
+  pub at-r : planar (t .r) ≡ c
 
--- The corners turned by one.
-abbrev pub turnedOnce : PlaneTriangle → PlaneTriangle
-turnedOnce t = record { p = t .q; q = t .r; r = t .p }
+-- A decision on triangles as one on their corners.
+abbrev pub ofCorners : (Point → Point → Point → Bool) → PlaneTriangle → Bool
+ofCorners test t = test (planar (t .p)) (planar (t .q)) (planar (t .r))
 
--- A decision on two triangles as one on their corners.
 abbrev pub ofBoth : ((p1 q1 r1 p2 q2 r2 : Point) → Bool) → PlaneTriangle → PlaneTriangle → Bool
-ofBoth test t u = test (planar (t .p)) (planar (t .q)) (planar (t .r)) (planar (u .p)) (planar (u .q)) (planar (u .r))
+ofBoth test t = ofCorners (test (planar (t .p)) (planar (t .q)) (planar (t .r)))
 
 -- No coordinate of a corner is larger than n, whatever its sign.
 pub record SizedTriangle (n : ℕ) (t : PlaneTriangle) : Type 0 where
@@ -29,13 +29,21 @@ pub record SizedTriangle (n : ℕ) (t : PlaneTriangle) : Type 0 where
   pub at-q : Sized n (planar (t .q))
   pub at-r : Sized n (planar (t .r))
 
--- What reading a list as a triangle of the plane is to give: refusal 1 or 2, or the corners in left-turn order.
-abbrev pub planeTriangle : ℕ → List ℤ → Answer Shape
-planeTriangle side l = shapeChecks 2 3 side l then served (leftOrder (pointAt 2 0 l) (pointAt 2 2 l) (pointAt 2 4 l))
+-- The corners turned by one.
+abbrev pub turnedOnce : PlaneTriangle → PlaneTriangle
+turnedOnce t = record { p = t .q; q = t .r; r = t .p }
 
--- The flat test of a triangle in left-turn order and the triangle of a list; of the triangles of two lists.
-abbrev pub secondTest : PlaneTriangle → List ℤ → Bool
-secondTest t l = inLeftOrder (triangleSorted (planar (t .p)) (planar (t .q)) (planar (t .r))) (pointAt 2 0 l) (pointAt 2 2 l) (pointAt 2 4 l)
+-- The corners so that they turn left.
+abbrev pub leftOrdered : PlaneTriangle → PlaneTriangle
+leftOrdered t = cond (ofCorners isRight t) (record { p = t .p; q = t .r; r = t .q }) (record { p = t .p; q = t .q; r = t .r })
 
-abbrev pub listsTest : List ℤ → List ℤ → Bool
-listsTest l m = triangleTest (pointAt 2 0 l) (pointAt 2 2 l) (pointAt 2 4 l) (pointAt 2 0 m) (pointAt 2 2 m) (pointAt 2 4 m)
+-- The decision on a sorted triangle: by how many of its edges are past.
+abbrev pub byPast : ℕ → PlaneTriangle → (pastOne pastTwo : Point → Point → Point → Bool) → Bool
+byPast zero t pastOne pastTwo = true
+byPast (suc zero) t pastOne pastTwo = ofCorners pastOne t
+byPast (suc (suc n)) t pastOne pastTwo = ofCorners pastTwo t
+
+-- The triangle t, sorted by the signs of the point p: whatever is decided past one edge and past two, s decides as p and t do.
+pub record SortedAs (p : Point) (t : PlaneTriangle) (s : Sorted) : Type 0 where
+  pub sized : SizedTriangle limit (s .triangle)
+  pub told : (pastOne pastTwo : Point → Point → Point → Bool) → byPast (s .past) (s .triangle) pastOne pastTwo ≡ ofCorners (sorted p pastOne pastTwo) t

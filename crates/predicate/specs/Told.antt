@@ -1,7 +1,6 @@
 -- What each case of an answer tells: document 01's number, side and place for a refusal, and the value of what is served.
 use mathlib.Core.Bool.{Bool, true, false}
 use lib.IntN.{ℤ, pos, negsuc}
-use Rattle.shape.specs.Points.{Shape}
 use Rattle.predicate.specs.Answers.{Answer, served, refused, Check, fine}
 use Rattle.predicate.specs.declared.answer.Refusal.{Refusal}
 use Rattle.predicate.specs.declared.answer.Sign.{Sign}
@@ -14,9 +13,6 @@ use Rattle.predicate.specs.declared.answer.VerdictAnswer.{VerdictAnswer}
 use Rattle.predicate.specs.declared.answer.VerdictAnswer.the-variants.{Meeting, Apart, Refused as VerdictRefused}
 use Rattle.predicate.specs.declared.grid.Checked.{Checked}
 use Rattle.predicate.specs.declared.grid.Checked.the-variants.{Fine, Refused as CheckRefused}
-use Rattle.predicate.specs.declared.plane.PlaneChecked.{PlaneChecked}
-use Rattle.predicate.specs.declared.plane.PlaneChecked.the-variants.{Ordered, Refused as PlaneRefused}
-use Rattle.predicate.specs.Planes.{planeCorners}
 
 -- A sign is -1, 0 or 1.
 abbrev pub signNumber : Sign → ℤ
@@ -45,8 +41,3 @@ toldVerdict (VerdictRefused why) = toldRefusal why
 abbrev pub toldCheck : Checked → Check
 toldCheck Fine = fine
 toldCheck (CheckRefused why) = toldRefusal why
-
--- A triangle of the plane that was checked, as its corners.
-abbrev pub toldPlane : PlaneChecked → Answer Shape
-toldPlane (Ordered t) = served (planeCorners t)
-toldPlane (PlaneRefused why) = toldRefusal why

@@ -7,6 +7,7 @@ ghost use lib.IntN.{pos};
 ghost use lib.ListN.{length, getD};
 ghost use Rattle.shape.specs.Points.{pointAt, pointsAt};
 ghost use Rattle.shape.specs.Signs.{turn, side, row, bracket, sign};
+ghost use Rattle.shape.specs.SpaceTest.{level};
 ghost use Rattle.predicate.specs.Grid.{limit, Ready};
 ghost use Rattle.predicate.specs.Told.{signNumber};
 ghost use Rattle.predicate.specs.Vectors.{planar, spatial, Sized, differenceSize, minorSize, minors, dot};
@@ -137,5 +138,18 @@ pub fn sign_of(z: i64) -> Sign
         Sign::Zero
     } else {
         Sign::Positive
+    }
+}
+
+// The level of d over the plane of a, b, c, by the sign of [a,b,c,d]: 0 for -1, 1 for 0, 2 for 1. The tests in space take every sign
+// from here.
+pub fn level_at(a: SpacePoint, b: SpacePoint, c: SpacePoint, d: SpacePoint) -> u32
+    requires { ⌜ Sized limit (spatial a) × Sized limit (spatial b) × Sized limit (spatial c) × Sized limit (spatial d) ⌝ }
+    ensures { λ r. ⌜ (r ≡ level (spatial a) (spatial b) (spatial c) (spatial d)) × (r ≤ 2) ⌝ }
+{
+    match sign_of(side_at(a, b, c, d)) {
+        Sign::Negative => 0,
+        Sign::Zero => 1,
+        Sign::Positive => 2,
     }
 }

@@ -5,10 +5,12 @@
 // 01's number, side and place. specs/Rules.antt gives the answer to every list, specs/Told.antt says what each case of an
 // answer tells, and proofs/Unique.antt shows that no second answer meets a contract.
 mod answer;
+mod checks;
 mod determinant;
 mod grid;
 mod plane;
 mod signs;
+mod space;
 mod verdicts;
 
 pub use answer::Refusal;
@@ -21,3 +23,5 @@ pub use signs::side_value;
 pub use signs::turn_sign;
 pub use signs::turn_value;
 pub use verdicts::flat_verdict;
+pub use verdicts::pair_verdict;
+pub use verdicts::segment_verdict;

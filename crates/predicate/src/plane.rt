@@ -1,23 +1,16 @@
-// The flat test on machine signs: the decision of crate shape's specs/PlaneTest.antt, test by test, on two triangles of the
-// grid. The module is private to the crate, as its leaves are: what is off the grid or flat was refused before.
+// The tests in the plane on machine signs: the decisions of crate shape's specs/PlaneTest.antt, test by test, on shapes of the grid. The
+// module is private to the crate, as its leaves are: what is off the grid or flat was refused before.
 //
 // Document 000's corners p1, q1, r1 and p2, q2, r2 are first.p, first.q, first.r and second.p, second.q, second.r.
-use crate::answer::Refusal;
 use crate::determinant::PlanePoint;
 use crate::determinant::plane_point;
 use crate::determinant::turn_at;
-use crate::grid::Checked;
-use crate::grid::grid_checked;
 ghost use mathlib.Core.Path.{_≡_};
-ghost use mathlib.Core.List.{[], _∷_};
-ghost use lib.ListN.{length};
-ghost use Rattle.shape.specs.PlaneTest.{isRight, leftOrder, cornerIn, lastEdges, trianglePastOne, trianglePastTwo, trianglePast, triangleSorted};
-ghost use Rattle.predicate.specs.Answers.{served, _then_};
-ghost use Rattle.predicate.specs.Grid.{limit};
-ghost use Rattle.predicate.specs.Rules.{notFlat};
-ghost use Rattle.predicate.specs.Told.{toldPlane};
+ghost use Rattle.shape.specs.Points.{pointAt};
+ghost use Rattle.shape.specs.PlaneTest.{isRight, cornerIn, lastEdges, trianglePastOne, trianglePastTwo, triangleTest, segmentPastOne, segmentPastTwo, segmentTest};
+ghost use Rattle.predicate.specs.Grid.{limit, Ready};
 ghost use Rattle.predicate.specs.Vectors.{planar, Sized};
-ghost use Rattle.predicate.specs.Planes.{planeTriangle, turnedOnce, ofBoth, SizedTriangle};
+ghost use Rattle.predicate.specs.Planes.{SizedTriangle, turnedOnce, leftOrdered, SortedAs, PlaneAt, ofCorners, ofBoth};
 
 // A triangle of the plane.
 pub struct PlaneTriangle {
@@ -26,44 +19,21 @@ pub struct PlaneTriangle {
     pub r: PlanePoint,
 }
 
-// What checking a triangle of the plane gives: the triangle in left-turn order, or the reason against it.
-pub enum PlaneChecked {
-    Ordered(PlaneTriangle),
-    Refused(Refusal),
+// A triangle turned so that the edges come last that some point is strictly right of: none, one or two of them are past.
+pub struct Sorted {
+    pub past: u32,
+    pub triangle: PlaneTriangle,
 }
 
-// Refusal 2 and the left-turn order, by one turn.
-fn ordered(side: u32, a: PlanePoint, b: PlanePoint, c: PlanePoint) -> PlaneChecked
-    requires { ⌜ Sized limit (planar a) × Sized limit (planar b) × Sized limit (planar c) ⌝ }
-    ensures { λ r. ⌜ toldPlane r ≡ notFlat 2 side 0 (planar a ∷ planar b ∷ planar c ∷ []) then served (leftOrder (planar a) (planar b) (planar c)) ⌝ }
+// The triangle that fills a list of six numbers.
+pub fn plane_triangle(numbers: &[i32]) -> PlaneTriangle
+    requires { ⌜ Ready 6 (now numbers) ⌝ }
+    ensures { λ r. ⌜ PlaneAt (pointAt 2 0 (now (numbers .entry))) (pointAt 2 2 (now (numbers .entry))) (pointAt 2 4 (now (numbers .entry))) r ⌝ }
 {
-    let turn = turn_at(a, b, c);
-    if turn == 0 {
-        return PlaneChecked::Refused(Refusal {
-            number: 2,
-            side: side,
-            place: 0,
-        });
-    }
-    if turn < 0 {
-        return PlaneChecked::Ordered(PlaneTriangle { p: a, q: c, r: b });
-    }
-    PlaneChecked::Ordered(PlaneTriangle { p: a, q: b, r: c })
-}
-
-// The triangle that fills a list of six numbers: refusal 1, then 2.
-pub fn plane_triangle(side: u32, numbers: &[i32]) -> PlaneChecked
-    requires { ⌜ length (now numbers) ≡ 6 ⌝ }
-    ensures { λ r. ⌜ toldPlane r ≡ planeTriangle side (now (numbers .entry)) ⌝ }
-{
-    match grid_checked(side, numbers) {
-        Checked::Refused(why) => PlaneChecked::Refused(why),
-        Checked::Fine => ordered(
-            side,
-            plane_point(numbers, 0),
-            plane_point(numbers, 2),
-            plane_point(numbers, 4),
-        ),
+    PlaneTriangle {
+        p: plane_point(numbers, 0),
+        q: plane_point(numbers, 2),
+        r: plane_point(numbers, 4),
     }
 }
 
@@ -73,6 +43,79 @@ fn right_of(a: PlanePoint, b: PlanePoint, c: PlanePoint) -> bool
     ensures { λ r. ⌜ r ≡ isRight (planar a) (planar b) (planar c) ⌝ }
 {
     turn_at(a, b, c) < 0
+}
+
+// The triangle with its corners turned by one.
+fn turned(t: PlaneTriangle) -> PlaneTriangle
+    ensures { λ r. ⌜ r ≡ turnedOnce t ⌝ }
+{
+    let p = t.p;
+    let q = t.q;
+    let r = t.r;
+    PlaneTriangle { p: q, q: r, r: p }
+}
+
+// The triangle so that its corners turn left: where they turn right, two trade places.
+fn left_order(t: PlaneTriangle) -> PlaneTriangle
+    requires { ⌜ SizedTriangle limit t ⌝ }
+    ensures { λ r. ⌜ r ≡ leftOrdered t ⌝ }
+{
+    let p = t.p;
+    let q = t.q;
+    let r = t.r;
+    if right_of(p, q, r) {
+        return PlaneTriangle { p: p, q: r, r: q };
+    }
+    PlaneTriangle { p: p, q: q, r: r }
+}
+
+// A triangle that turns left, sorted by the signs of p against its edges.
+fn sorted_by(p: PlanePoint, t: PlaneTriangle) -> Sorted
+    requires { ⌜ Sized limit (planar p) × SizedTriangle limit t ⌝ }
+    ensures { λ r. ⌜ SortedAs (planar p) t r ⌝ }
+{
+    let once = turned(t);
+    let twice = turned(once);
+    if right_of(t.p, t.q, p) {
+        if right_of(t.q, t.r, p) {
+            return Sorted {
+                past: 2,
+                triangle: twice,
+            };
+        }
+        if right_of(t.r, t.p, p) {
+            return Sorted {
+                past: 2,
+                triangle: once,
+            };
+        }
+        return Sorted {
+            past: 1,
+            triangle: once,
+        };
+    }
+    if right_of(t.q, t.r, p) {
+        if right_of(t.r, t.p, p) {
+            return Sorted {
+                past: 2,
+                triangle: t,
+            };
+        }
+        return Sorted {
+            past: 1,
+            triangle: twice,
+        };
+    }
+    if right_of(t.r, t.p, p) {
+        return Sorted {
+            past: 1,
+            triangle: t,
+        };
+    }
+    Sorted {
+        past: 0,
+        triangle: t,
+    } // p is in the triangle
 }
 
 // Where p1 → q1 passes beyond p2: p2 is in the first triangle.
@@ -143,48 +186,64 @@ fn past_two(first: PlaneTriangle, second: PlaneTriangle) -> bool
     !right_of(second.q, first.p, first.q)
 }
 
-// The triangle with its corners turned by one.
-fn turned(t: PlaneTriangle) -> PlaneTriangle
-    ensures { λ r. ⌜ r ≡ turnedOnce t ⌝ }
+// Whether two triangles that are not flat have a point in common.
+pub fn planes_meet(t: PlaneTriangle, u: PlaneTriangle) -> bool
+    requires { ⌜ SizedTriangle limit t × SizedTriangle limit u ⌝ }
+    ensures { λ r. ⌜ r ≡ ofBoth triangleTest t u ⌝ }
 {
-    let p = t.p;
-    let q = t.q;
-    let r = t.r;
-    PlaneTriangle { p: q, q: r, r: p }
+    let first = left_order(t);
+    let sorted = sorted_by(first.p, left_order(u));
+    if sorted.past == 0 {
+        return true; // p1 is in the second triangle
+    }
+    if sorted.past == 1 {
+        return past_one(first, sorted.triangle);
+    }
+    past_two(first, sorted.triangle)
 }
 
-// p1 is strictly right of p2 → q2: its other two signs.
-fn past_first(first: PlaneTriangle, second: PlaneTriangle) -> bool
-    requires { ⌜ SizedTriangle limit first × SizedTriangle limit second ⌝ }
-    ensures { λ r. ⌜ r ≡ ofBoth trianglePast first second ⌝ }
+// p is strictly right of r → p of the triangle t and of no other edge.
+fn segment_past_one(p: PlanePoint, q: PlanePoint, t: PlaneTriangle) -> bool
+    requires { ⌜ Sized limit (planar p) × Sized limit (planar q) × SizedTriangle limit t ⌝ }
+    ensures { λ r. ⌜ r ≡ ofCorners (segmentPastOne (planar p) (planar q)) t ⌝ }
 {
-    let once = turned(second);
-    if right_of(second.q, second.r, first.p) {
-        return past_two(first, turned(once));
+    if right_of(t.r, t.p, q) {
+        return false; // so is q
     }
-    if right_of(second.r, second.p, first.p) {
-        return past_two(first, once);
+    if right_of(t.r, p, q) {
+        return false; // all of the triangle is right of p → q
     }
-    past_one(first, once)
+    !right_of(p, t.p, q)
 }
 
-// Whether two triangles in left-turn order have a point in common: p1 is sorted by its signs against the edges of the second,
-// which is turned so that the edges that p1 is strictly right of come last.
-pub fn planes_meet(first: PlaneTriangle, second: PlaneTriangle) -> bool
-    requires { ⌜ SizedTriangle limit first × SizedTriangle limit second ⌝ }
-    ensures { λ r. ⌜ r ≡ ofBoth triangleSorted first second ⌝ }
+// p is strictly right of q → r and of r → p of the triangle t.
+fn segment_past_two(p: PlanePoint, q: PlanePoint, t: PlaneTriangle) -> bool
+    requires { ⌜ Sized limit (planar p) × Sized limit (planar q) × SizedTriangle limit t ⌝ }
+    ensures { λ r. ⌜ r ≡ ofCorners (segmentPastTwo (planar p) (planar q)) t ⌝ }
 {
-    if right_of(second.p, second.q, first.p) {
-        return past_first(first, second);
+    if right_of(t.q, t.r, q) {
+        return false; // q is right of the same edge
     }
-    if right_of(second.q, second.r, first.p) {
-        if right_of(second.r, second.p, first.p) {
-            return past_two(first, second);
-        }
-        return past_one(first, turned(turned(second)));
+    if right_of(t.r, t.p, q) {
+        return false;
     }
-    if right_of(second.r, second.p, first.p) {
-        return past_one(first, second);
+    if right_of(p, t.p, q) {
+        return false; // all of the triangle is left of p → q
     }
-    true
+    !right_of(t.q, p, q)
+}
+
+// Whether a segment and a triangle that is not flat have a point in common.
+pub fn segment_meets_plane(p: PlanePoint, q: PlanePoint, t: PlaneTriangle) -> bool
+    requires { ⌜ Sized limit (planar p) × Sized limit (planar q) × SizedTriangle limit t ⌝ }
+    ensures { λ r. ⌜ r ≡ ofCorners (segmentTest (planar p) (planar q)) t ⌝ }
+{
+    let sorted = sorted_by(p, left_order(t));
+    if sorted.past == 0 {
+        return true; // p is in the triangle
+    }
+    if sorted.past == 1 {
+        return segment_past_one(p, q, sorted.triangle);
+    }
+    segment_past_two(p, q, sorted.triangle)
 }

@@ -9,9 +9,9 @@ use lib.Dec.{eqb}
 use lib.IntN.{ℤ, pos, negsuc, negℤ}
 use lib.Signed.{_≤ℤ_, _<ℤ_, ≤ℤ-refl}
 use Rattle.algebra.proofs.Order.{0<-pos, weak, le-of-lt, ≤ℤ-<ℤ-trans}
-use Rattle.shape.specs.Signs.{sign}
+use Rattle.shape.specs.Signs.{sign, digit}
 use Rattle.shape.specs.Verdicts.{Says}
-use Rattle.shape.specs.SpaceTest.{digit, Standing, beside, within, alone, standing, byEnds}
+use Rattle.shape.specs.SpaceTest.{Standing, beside, within, alone, standing, byEnds}
 use Rattle.shape.proofs.VerdictLaws.{says-no}
 
 -- The first of three corners is alone on its side of a plane, that side being the non-negative one: the side values of the

@@ -44,3 +44,9 @@ abbrev pub sign : ℤ → ℤ
 sign (pos zero) = pos 0
 sign (pos (suc n)) = pos 1
 sign (negsuc n) = negsuc 0
+
+-- A sign as a digit: 0 for -1, 1 for 0, 2 for 1.
+abbrev pub digit : ℤ → ℕ
+digit (negsuc n) = 0
+digit (pos zero) = 1
+digit (pos (suc n)) = 2

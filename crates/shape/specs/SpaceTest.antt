@@ -5,20 +5,14 @@ use mathlib.Core.Bool.{Bool, true, false, cond}
 use mathlib.Core.List.{List, [], _∷_}
 use Prim.Native.Nat.{ℕ, zero, suc, _+_, _*_}
 use lib.Dec.{eqb, ltb}
-use lib.IntN.{ℤ, pos, negsuc}
+use lib.IntN.{ℤ}
 use lib.ListN.{getD}
 use Rattle.shape.specs.Points.{Point, coord}
-use Rattle.shape.specs.Signs.{turn, side, sign}
+use Rattle.shape.specs.Signs.{turn, side, sign, digit}
 use Rattle.shape.specs.Flat.{isZero}
 use Rattle.shape.specs.PlaneTest.{triangleTest, segmentTest}
 
 -- ---- the signs against a plane
--- A sign as a digit: 0 for -1, 1 for 0, 2 for 1.
-abbrev pub digit : ℤ → ℕ
-digit (negsuc n) = 0
-digit (pos zero) = 1
-digit (pos (suc n)) = 2
-
 -- The level of x over the plane of a, b, c: 0 where [a,b,c,x] is below zero, 1 where it is zero, 2 where it is above.
 abbrev pub level : Point → Point → Point → Point → ℕ
 level a b c x = digit (sign (side a b c x))

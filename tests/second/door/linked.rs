@@ -6,6 +6,9 @@ extern "C" {
     fn zg_turn(points: *const i32, points_len: usize, answer: *mut u64, answer_len: usize) -> u32;
     fn zg_side(points: *const i32, points_len: usize, answer: *mut u64, answer_len: usize) -> u32;
     fn zg_flat(a: *const i32, a_len: usize, b: *const i32, b_len: usize, answer: *mut u64, answer_len: usize) -> u32;
+    fn zg_segment(a: *const i32, a_len: usize, b: *const i32, b_len: usize, answer: *mut u64, answer_len: usize)
+        -> u32;
+    fn zg_pair(a: *const i32, a_len: usize, b: *const i32, b_len: usize, answer: *mut u64, answer_len: usize) -> u32;
 }
 
 pub struct Door;
@@ -37,6 +40,8 @@ fn reply_to(question: &Question) -> Reply {
             Function::Turn => zg_turn(a, a_len, answer, answer_len),
             Function::Side => zg_side(a, a_len, answer, answer_len),
             Function::Flat => zg_flat(a, a_len, b, b_len, answer, answer_len),
+            Function::Segment => zg_segment(a, a_len, b, b_len, answer, answer_len),
+            Function::Pair => zg_pair(a, a_len, b, b_len, answer, answer_len),
         }
     };
     Reply {

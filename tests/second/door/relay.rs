@@ -4,9 +4,9 @@
 //! A question is one frame, and its reply is the same frame, of the same size, as the call left
 //! it. All numbers in it are little-endian:
 //!
-//! - eight unsigned 32-bit numbers, the head: a mark; 1, 2 or 3 for turn, side or flat; the result
-//!   (any number in a question); the lengths of the first list, the second list and the room; the
-//!   position in the room where the lent answer starts, and the length of the lent answer;
+//! - eight unsigned 32-bit numbers, the head: a mark; 1 to 5 for turn, side, flat, segment or pair; the
+//!   result (any number in a question); the lengths of the first list, the second list and the room;
+//!   the position in the room where the lent answer starts, and the length of the lent answer;
 //! - the room, unsigned 64-bit numbers;
 //! - the first list and then the second, signed 32-bit numbers;
 //! - four bytes of 0 where the frame's size would not be a multiple of eight without them.
@@ -120,6 +120,8 @@ fn push_frame(bytes: &mut Vec<u8>, question: &Question) -> usize {
         Function::Turn => 1,
         Function::Side => 2,
         Function::Flat => 3,
+        Function::Segment => 4,
+        Function::Pair => 5,
     };
     let lengths = [first.len(), second.len(), ROOM_NUMBERS, MARGIN, room.lent];
     for number in [FRAME_MARK, function, NO_RESULT] {

@@ -4,13 +4,13 @@ use borrow.Author.Needs.{needs}
 use mathlib.Core.Path.{_≡_, sym, ap}
 use Rattle.predicate.specs.Told.{signNumber}
 use Rattle.predicate.specs.declared.answer.Sign.{Sign}
-use Rattle.door.specs.Numbers.{signCode}
+use Rattle.shape.specs.Signs.{digit}
 use Rattle.door.proofs.signs.sign_code.Statement.{statement}
 use Rattle.door.proofs.signs.sign_code.Tie as tie
 
 -- The number of a sign that is known.
-known : {sign is : Sign} → sign ≡ is → signCode (signNumber is) ≡ signCode (signNumber sign)
-known e = sym (ap (λ (s : Sign). signCode (signNumber s)) e)
+known : {sign is : Sign} → sign ≡ is → digit (signNumber is) ≡ digit (signNumber sign)
+known e = sym (ap (λ (s : Sign). digit (signNumber s)) e)
 
 enum-told : tie.Need-enum-told
 enum-told c = search needs

@@ -6,7 +6,8 @@ use Prim.Native.Nat.{ℕ}
 use Rattle.predicate.specs.Answers.{served, withServed}
 use Rattle.predicate.specs.Told.{toldSign}
 use Rattle.predicate.specs.declared.answer.SignAnswer.{SignAnswer}
-use Rattle.door.specs.Numbers.{signCode, fourNumbers}
+use Rattle.shape.specs.Signs.{digit}
+use Rattle.door.specs.Numbers.{fourNumbers}
 use Rattle.door.proofs.signs.sign_numbers.Statement.{statement}
 use Rattle.door.proofs.signs.sign_numbers.Tie as tie
 
@@ -28,14 +29,14 @@ served-numbers-requires c κs = search needs
 returns : tie.Need-returns
 returns c =
     c .refused-numbers .ensures
-    ∙ sym (ap (λ (a : SignAnswer). fourNumbers (withServed signCode (toldSign a))) (c .before .before .told .given .1))
+    ∙ sym (ap (λ (a : SignAnswer). fourNumbers (withServed digit (toldSign a))) (c .before .before .told .given .1))
 
 returns-2 : tie.Need-returns-2
 returns-2 c =
     let p = c .before in
     c .served-numbers .ensures
     ∙ ap (λ (value : ℕ). fourNumbers (served value)) (p .sign-code .ensures)
-    ∙ sym (ap (λ (a : SignAnswer). fourNumbers (withServed signCode (toldSign a))) (p .before .before .told2 .given .1))
+    ∙ sym (ap (λ (a : SignAnswer). fourNumbers (withServed digit (toldSign a))) (p .before .before .told2 .given .1))
 
 pub sign-numbers-spec : {M : Type 1} → statement M
 sign-numbers-spec =

@@ -1,7 +1,7 @@
 -- `door::signs::zg_side` meets its contract: it writes the numbers of what the sign call tells.
 -- Assumes nothing.
 use borrow.Author.Needs.{needs}
-use Rattle.door.specs.Numbers.{signCode}
+use Rattle.shape.specs.Signs.{digit}
 use Rattle.door.proofs.BufferLaws.{told-right}
 use Rattle.door.proofs.signs.zg_side.Statement.{statement}
 use Rattle.door.proofs.signs.zg_side.Tie as tie
@@ -21,7 +21,7 @@ same-length c = search needs
 returns : tie.Need-returns
 returns c =
     let p = c .before .before in
-    told-right signCode (p .before .sign-numbers .ensures) (p .before .before .side-sign .ensures) (p .put .ensures)
+    told-right digit (p .before .sign-numbers .ensures) (p .before .before .side-sign .ensures) (p .put .ensures)
 
 pub zg-side-spec : {M : Type 1} → statement M
 zg-side-spec =

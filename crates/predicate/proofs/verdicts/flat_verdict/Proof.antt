@@ -1,16 +1,18 @@
--- `predicate::verdicts::flat_verdict` meets its contract: a wrong length is refused first, and the verdict on two triangles that pass the
--- checks is that of the flat test, which is right. Assumes nothing.
+-- `predicate::verdicts::flat_verdict` meets its contract: what the checks refuse is refused, and the verdict on what they pass is that of
+-- the flat test, which is right. Assumes nothing.
 use borrow.Author.Needs.{needs}
 use mathlib.Core.Path.{sym, ap, _∙_}
+use Rattle.shape.specs.PlaneTest.{triangleTest}
+use Rattle.shape.proofs.PlaneTest.{triangle-test}
+use Rattle.predicate.specs.Answers.{served}
 use Rattle.predicate.specs.Told.{toldCheck}
-use Rattle.predicate.specs.Planes.{listsTest}
-use Rattle.predicate.proofs.PairLaws.{lengths-fine, refused-by-lengths, judged}
-use Rattle.predicate.proofs.PlaneLaws.{lists-right}
+use Rattle.predicate.proofs.PairLaws.{both-passed, refused-by-checks, judged}
+use Rattle.predicate.proofs.PlaneLaws.{sized-triangle}
 use Rattle.predicate.proofs.verdicts.flat_verdict.Statement.{statement}
 use Rattle.predicate.proofs.verdicts.flat_verdict.Tie as tie
 
-lengths-checked-requires : tie.Need-lengths-checked-requires
-lengths-checked-requires c κs = search needs
+pair-checked-requires : tie.Need-pair-checked-requires
+pair-checked-requires c κs = search needs
 
 enum-known-why : tie.Need-enum-known-why
 enum-known-why c = search needs
@@ -18,32 +20,56 @@ enum-known-why c = search needs
 enum-told : tie.Need-enum-told
 enum-told c = search needs
 
-triangles-verdict-requires : tie.Need-triangles-verdict-requires
-triangles-verdict-requires c κs =
-    let p = c .before .before in
-    lengths-fine 2 3 3 (p .before .args .first .now) (p .before .args .second .now) (sym (p .lengths-checked .ensures) ∙ ap toldCheck (c .enum-told .given .1))
+plane-triangle-requires : tie.Need-plane-triangle-requires
+plane-triangle-requires c κs =
+    let q = c .before .before in
+    let a = q .before .args in
+    both-passed 2 3 3 (a .first .now) (a .second .now) (sym (q .pair-checked .ensures) ∙ ap toldCheck (c .enum-told .given .1)) .0 .ready
+
+plane-triangle-requires-2 : tie.Need-plane-triangle-requires-2
+plane-triangle-requires-2 c κs =
+    let q = c .before .before .before in
+    let a = q .before .args in
+    both-passed 2 3 3 (a .first .now) (a .second .now) (sym (q .pair-checked .ensures) ∙ ap toldCheck (c .before .enum-told .given .1)) .1 .ready
+
+planes-meet-requires : tie.Need-planes-meet-requires
+planes-meet-requires c κs =
+    let q = c .before .before .before .before in
+    let a = q .before .args in
+    let both = both-passed 2 3 3 (a .first .now) (a .second .now) (sym (q .pair-checked .ensures) ∙ ap toldCheck (c .before .before .enum-told .given .1)) in
+    (sized-triangle (both .0 .ready) (c .before .plane-triangle .ensures), sized-triangle (both .1 .ready) (c .plane-triangle2 .ensures))
+
+verdict-requires : tie.Need-verdict-requires
+verdict-requires c κs = search needs
 
 returns : tie.Need-returns
 returns c =
-    let p = c .before .before .before in
-    refused-by-lengths 2 3 3 (p .before .args .first .now) (p .before .args .second .now) _
-    (sym (p .lengths-checked .ensures) ∙ ap toldCheck (c .before .why .given .1))
+    let q = c .before .before .before in
+    refused-by-checks 2 3 3 (q .before .args .first .now) (q .before .args .second .now) _
+    (sym (q .pair-checked .ensures) ∙ ap toldCheck (c .before .why .given .1))
 
 returns-2 : tie.Need-returns-2
 returns-2 c =
-    let p = c .before .before .before in
-    let a = p .before .args in
-    judged 2 3 3 (a .first .now) (a .second .now) _ (listsTest (a .first .now) (a .second .now))
-    (sym (p .lengths-checked .ensures) ∙ ap toldCheck (c .before .enum-told .given .1))
-    (c .triangles-verdict .ensures) (lists-right (a .first .now) (a .second .now))
+    let q = c .before .before .before .before .before .before in
+    let a = q .before .args in
+    let fine = sym (q .pair-checked .ensures) ∙ ap toldCheck (c .before .before .before .before .enum-told .given .1) in
+    let both = both-passed 2 3 3 (a .first .now) (a .second .now) fine in
+    let t = c .before .before .before .plane-triangle .ensures in
+    let u = c .before .before .plane-triangle2 .ensures in
+    judged 2 3 3 (a .first .now) (a .second .now) _ fine
+    (c .verdict .ensures ∙ ap served (c .before .planes-meet .ensures ∙ (λ i. triangleTest (t .at-p i) (t .at-q i) (t .at-r i) (u .at-p i) (u .at-q i) (u .at-r i))))
+    (triangle-test _ _ _ _ _ _ (both .0 .not-flat) (both .1 .not-flat))
 
 pub flat-verdict-spec : {M : Type 1} → statement M
 flat-verdict-spec =
     tie.close
     (tie.spec
-    lengths-checked-requires
+    pair-checked-requires
     enum-known-why
     enum-told
-    triangles-verdict-requires
+    plane-triangle-requires
+    plane-triangle-requires-2
+    planes-meet-requires
+    verdict-requires
     returns
     returns-2)

@@ -1,0 +1,107 @@
+//! The pairs: three kinds that are timed, each from a seed of its own, and faulty ones.
+
+use crate::ordinary::{self, GRID, TRIANGLE_NUMBERS};
+use crate::random::Random;
+
+/// This many of each kind.
+const PAIRS: usize = 20_000;
+/// How far the corners of a small triangle may lie from its middle, in each coordinate.
+const SMALL_HALF: i32 = 1_000;
+/// The tiny grid goes from 0 to this.
+const TINY_END: i32 = 4;
+
+type List = [i32; TRIANGLE_NUMBERS];
+
+pub struct Pair {
+    pub first: List,
+    pub second: List,
+}
+
+/// Pairs that are served, all of one kind.
+pub struct Input {
+    pub name: &'static str,
+    pub pairs: Vec<Pair>,
+}
+
+pub fn timed() -> [Input; 3] {
+    [
+        Input {
+            name: "random over the whole grid",
+            pairs: served_pairs(1, |random| box_pair(random, -GRID, GRID)),
+        },
+        Input {
+            name: "small triangles spread over the grid",
+            pairs: served_pairs(2, small_pair),
+        },
+        Input {
+            name: "a tiny grid, many touching or in one plane",
+            pairs: served_pairs(3, tiny_pair),
+        },
+    ]
+}
+
+fn served_pairs(seed: u64, any_pair: impl Fn(&mut Random) -> Pair) -> Vec<Pair> {
+    let mut random = Random::new(seed, 0);
+    let is_served = |pair: &Pair| ordinary::pair::<i128>(&pair.first, &pair.second).number == 0;
+    let pairs = std::iter::repeat_with(|| any_pair(&mut random));
+    pairs.filter(is_served).take(PAIRS).collect()
+}
+
+fn box_list(random: &mut Random, low: i32, high: i32) -> List {
+    [0; TRIANGLE_NUMBERS].map(|_| random.between(low, high))
+}
+
+fn box_pair(random: &mut Random, low: i32, high: i32) -> Pair {
+    Pair {
+        first: box_list(random, low, high),
+        second: box_list(random, low, high),
+    }
+}
+
+/// Each triangle has its corners near a point anywhere on the grid.
+fn small_pair(random: &mut Random) -> Pair {
+    let mut pair = box_pair(random, -SMALL_HALF, SMALL_HALF);
+    let end = GRID - SMALL_HALF;
+    for list in [&mut pair.first, &mut pair.second] {
+        let middle = [0; 3].map(|_| random.between(-end, end));
+        for (place, number) in list.iter_mut().enumerate() {
+            *number += middle[place % 3];
+        }
+    }
+    pair
+}
+
+/// Every fourth pair or so lies in one plane, on which one of the axes is upright.
+fn tiny_pair(random: &mut Random) -> Pair {
+    let mut pair = box_pair(random, 0, TINY_END);
+    if random.once_in(4) {
+        let axis = random.index(3);
+        for corner in pair.first.chunks_mut(3).chain(pair.second.chunks_mut(3)) {
+            corner[axis] = 0;
+        }
+    }
+    pair
+}
+
+/// Two lists, each with no fault or with one or several of: a wrong length, a number off the grid,
+/// corners on one line.
+pub fn faulty() -> Vec<[Vec<i32>; 2]> {
+    let mut random = Random::new(4, 0);
+    let any_pair = || [0; 2].map(|_| faulty_list(&mut random));
+    std::iter::repeat_with(any_pair).take(PAIRS).collect()
+}
+
+fn faulty_list(random: &mut Random) -> Vec<i32> {
+    let mut list = box_list(random, 0, TINY_END).to_vec();
+    if random.once_in(4) {
+        list.copy_within(0..3, 6);
+    }
+    for _ in 0..random.below(3) {
+        let place = random.index(list.len());
+        list[place] = random.pick(&[GRID, GRID + 1, -GRID, -GRID - 1, i32::MAX, i32::MIN]);
+    }
+    if random.once_in(4) {
+        list.resize(random.index(2 * TRIANGLE_NUMBERS), 0);
+    }
+    list
+}

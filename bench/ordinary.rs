@@ -1,0 +1,195 @@
+//! The yardstick: an ordinary pair test, written for reading. It takes what `zg_pair` takes, makes
+//! the same checks in the same order, decides by the same method ("The method of document 000" in
+//! document 01, step by step) and gives the same four numbers.
+//!
+//! Every difference, product and determinant is a number of the type `W`: i128, or i64, in which
+//! everything on the grid fits as well.
+
+mod flat;
+
+use std::cmp::Ordering::{Equal, Greater, Less};
+use std::ops::{Add, Mul, Sub};
+
+/// Every coordinate lies from -GRID to GRID, ends included.
+pub const GRID: i32 = 524_288;
+pub const TRIANGLE_NUMBERS: usize = 9;
+
+/// The numbers of an answer, in the order of zimogrud.h.
+#[derive(Clone, Copy, PartialEq, Debug)]
+pub struct Answer {
+    pub number: u64,
+    pub side: u64,
+    pub place: u64,
+    pub verdict: u64,
+}
+
+/// A type of whole numbers to calculate with.
+pub trait Whole: Copy + Ord + From<i32> + Add<Output = Self> + Sub<Output = Self> + Mul<Output = Self> {}
+
+impl Whole for i64 {}
+impl Whole for i128 {}
+
+type Point = [i32; 3];
+type Triangle = [Point; 3];
+
+/// Whether the triangles of two lists have a point in common, or why that can't be answered.
+/// Not inlined, so that it is called as a library's function is.
+#[inline(never)]
+pub fn pair<W: Whole>(first: &[i32], second: &[i32]) -> Answer {
+    match checked_verdict::<W>(first, second) {
+        Err(refusal) => refusal,
+        Ok(meeting) => Answer {
+            number: 0,
+            side: 0,
+            place: 0,
+            verdict: meeting.into(),
+        },
+    }
+}
+
+fn checked_verdict<W: Whole>(first: &[i32], second: &[i32]) -> Result<bool, Answer> {
+    check_length(first, 0)?;
+    check_length(second, 1)?;
+    check_grid(first, 0)?;
+    let first = triangle(first);
+    check_not_flat::<W>(first, 0)?;
+    check_grid(second, 1)?;
+    let second = triangle(second);
+    check_not_flat::<W>(second, 1)?;
+    Ok(meet::<W>(first, second))
+}
+
+// ---- The checks ----
+
+fn refusal(number: u64, side: u64, place: usize) -> Answer {
+    Answer {
+        number,
+        side,
+        place: place as u64,
+        verdict: 0,
+    }
+}
+
+fn check_length(list: &[i32], side: u64) -> Result<(), Answer> {
+    if list.len() == TRIANGLE_NUMBERS {
+        Ok(())
+    } else {
+        Err(refusal(3, side, list.len()))
+    }
+}
+
+fn check_grid(list: &[i32], side: u64) -> Result<(), Answer> {
+    match list.iter().position(|number| !(-GRID..=GRID).contains(number)) {
+        Some(place) => Err(refusal(1, side, place)),
+        None => Ok(()),
+    }
+}
+
+fn triangle(list: &[i32]) -> Triangle {
+    let corner = |at: usize| [list[at], list[at + 1], list[at + 2]];
+    [corner(0), corner(3), corner(6)]
+}
+
+fn check_not_flat<W: Whole>(triangle: Triangle, side: u64) -> Result<(), Answer> {
+    if normal::<W>(triangle) == [W::from(0); 3] {
+        Err(refusal(2, side, 0))
+    } else {
+        Ok(())
+    }
+}
+
+// ---- The determinants ----
+
+fn minus<W: Whole>(a: Point, b: Point) -> [W; 3] {
+    let difference = |k: usize| W::from(a[k]) - W::from(b[k]);
+    [difference(0), difference(1), difference(2)]
+}
+
+/// A vector upright on the triangle's plane; zero where the corners lie on one line.
+fn normal<W: Whole>([a, b, c]: Triangle) -> [W; 3] {
+    let ([ux, uy, uz], [vx, vy, vz]) = (minus::<W>(b, a), minus::<W>(c, a));
+    [uy * vz - uz * vy, uz * vx - ux * vz, ux * vy - uy * vx]
+}
+
+/// [a,b,c,d]: the determinant whose rows are a - d, b - d, c - d.
+fn side<W: Whole>(a: Point, b: Point, c: Point, d: Point) -> W {
+    let [ax, ay, az] = minus::<W>(a, d);
+    let [bx, by, bz] = minus::<W>(b, d);
+    let [cx, cy, cz] = minus::<W>(c, d);
+    ax * (by * cz - bz * cy) + ay * (bz * cx - bx * cz) + az * (bx * cy - by * cx)
+}
+
+// ---- The method ----
+
+/// How a triangle stands to the plane of another.
+enum Stand {
+    /// All of it is strictly on one side.
+    Beside,
+    /// All of it is in the plane.
+    Within,
+    /// Otherwise: one corner counts as alone on its side.
+    Across(Alone),
+}
+
+struct Alone {
+    corner: usize,
+    /// Whether that side is the negative one.
+    below: bool,
+}
+
+/// How p, q, r stands to the plane of a, b, c. A single corner on the plane counts with either side;
+/// two on it count together, against the third.
+fn stand<W: Whole>([p, q, r]: Triangle, [a, b, c]: Triangle) -> Stand {
+    let sign = |corner: Point| side::<W>(a, b, c, corner).cmp(&W::from(0));
+    let across = |corner, below| Stand::Across(Alone { corner, below });
+    match [sign(p), sign(q), sign(r)] {
+        [Greater, Greater, Greater] | [Less, Less, Less] => Stand::Beside,
+        [Equal, Equal, Equal] => Stand::Within,
+        [Greater, Less | Equal, Less | Equal] | [Equal, Less, Less] => across(0, false),
+        [Less | Equal, Greater, Less | Equal] | [Less, Equal, Less] => across(1, false),
+        [Less | Equal, Less | Equal, Greater] | [Less, Less, Equal] => across(2, false),
+        [Less, Greater | Equal, Greater | Equal] | [Equal, Greater, Greater] => across(0, true),
+        [Greater | Equal, Less, Greater | Equal] | [Greater, Equal, Greater] => across(1, true),
+        [Greater | Equal, Greater | Equal, Less] | [Greater, Greater, Equal] => across(2, true),
+    }
+}
+
+fn meet<W: Whole>(first: Triangle, second: Triangle) -> bool {
+    let alone_of_first = match stand::<W>(first, second) {
+        Stand::Beside => return false,
+        Stand::Within => return meet_in_one_plane::<W>(first, second),
+        Stand::Across(alone) => alone,
+    };
+    let alone_of_second = match stand::<W>(second, first) {
+        Stand::Beside => return false,
+        Stand::Within => return meet_in_one_plane::<W>(first, second),
+        Stand::Across(alone) => alone,
+    };
+    // Swapping the last two corners of one triangle flips the signs of the other's corners.
+    let [p1, q1, r1] = reordered(first, alone_of_first.corner, alone_of_second.below);
+    let [p2, q2, r2] = reordered(second, alone_of_second.corner, alone_of_first.below);
+    side::<W>(p1, q1, p2, q2) <= W::from(0) && side::<W>(p1, r1, r2, p2) <= W::from(0)
+}
+
+fn reordered(triangle: Triangle, first_corner: usize, swapped: bool) -> Triangle {
+    let corner = |k: usize| triangle[(first_corner + k) % 3];
+    if swapped {
+        [corner(0), corner(2), corner(1)]
+    } else {
+        [corner(0), corner(1), corner(2)]
+    }
+}
+
+/// Drops a coordinate at which the normal is not zero.
+fn meet_in_one_plane<W: Whole>(first: Triangle, second: Triangle) -> bool {
+    let [x, y, _] = normal::<W>(first);
+    let (k, l) = if x != W::from(0) {
+        (1, 2)
+    } else if y != W::from(0) {
+        (0, 2)
+    } else {
+        (0, 1)
+    };
+    let flattened = |[p, q, r]: Triangle| [[p[k], p[l]], [q[k], q[l]], [r[k], r[l]]];
+    flat::meet::<W>(flattened(first), flattened(second))
+}
