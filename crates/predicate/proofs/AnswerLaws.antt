@@ -22,15 +22,7 @@ pub served-later : {A B : Type 0} (f : A → B) (c : Check) (a : Answer A) → w
 served-later f (served u) a = refl
 served-later f (refused n s p) a = refl
 
--- A check, and then what is served: where that is refused, the check refused it; where it is served, the check was fine.
-pub then-refused : {A : Type 0} (c : Check) (a : A) (why : Refusal) → toldRefusal why ≡ (c then served a) → c ≡ toldRefusal why
-then-refused (served u) a why e = absurd (served-not-refused a why (sym e))
-then-refused (refused number side place) a why e =
-    let n : number ≡ why .number = cc in
-    let s : side ≡ why .side = cc in
-    let p : place ≡ why .place = cc in
-    λ i. refused (n i) (s i) (p i)
-
+-- A check, and then what is served: where that is served, the check was fine.
 pub then-served : {A : Type 0} (c : Check) (a b : A) → served b ≡ (c then served a) → (c ≡ fine) × (b ≡ a)
 then-served (served u) a b e = (refl, cc)
 then-served (refused number side place) a b e = let z : _≡_ {A = ℕ} 0 1 = cc in absurd (omega arith)

@@ -14,7 +14,10 @@ use mir.Val.{toZ, ofZ, hbits}
 use mir.Facts.{toZ-ofZ}
 use borrow.Author.Needs.{sfits-of}
 use Rattle.shape.specs.Points.{Point, coord, pointAt}
-use Rattle.predicate.specs.Grid.{limit, onGrid, lowestOff, Ready}
+use Rattle.shape.specs.Verdicts.{Says}
+use Rattle.shape.proofs.FlatLaws.{below-says}
+use Rattle.shape.proofs.VerdictLaws.{says-itself}
+use Rattle.predicate.specs.Grid.{limit, onGrid, lowestOff, allOn, Ready}
 use Rattle.predicate.specs.Vectors.{Sized}
 
 -- ---- one number, against a limit m + 1
@@ -61,6 +64,23 @@ all-on (z ∷ l) h k = first (onGrid z) refl (all-on l) k h
     first true e rest zero g = leb-true (natAbs z) limit e
     first true e rest (suc k) g = rest (omega arith) k
     first false e rest k g = absurd (omega arith)
+
+-- The test of all numbers tells whether there is one.
+pub all-on-says : (l : List ℤ) → Says (allOn l) ((k : ℕ) → k < length l → onGrid (getD l k (pos 0)) ≡ true)
+all-on-says l =
+    below-says (length l) (λ k. onGrid (getD l k (pos 0)) ≡ true) (λ k. onGrid (getD l k (pos 0))) (λ k. says-itself (onGrid (getD l k (pos 0))))
+
+pub none-off : (l : List ℤ) → allOn l ≡ true → ltb (lowestOff l) (length l) ≡ false
+none-off l e =
+    le-ltb (lowestOff l) (length l) (omega (arith, lowest-is l (length l) (omega arith) (all-on-says l .yes e) (λ p. absurd (omega arith))))
+
+pub one-off : (l : List ℤ) → allOn l ≡ false → ltb (lowestOff l) (length l) ≡ true
+one-off l e = by-test (ltb (lowestOff l) (length l)) refl
+  where
+    by-test : (t : Bool) → ltb (lowestOff l) (length l) ≡ t → t ≡ true
+    by-test true f = refl
+    by-test false f =
+        absurd (all-on-says l .no e (λ k p. le-leb (natAbs (getD l k (pos 0))) limit (all-on l (ltb-false (lowestOff l) (length l) f) k)))
 
 -- Some number of the list is off the grid.
 pub record SomeOff (l : List ℤ) : Type 0 where

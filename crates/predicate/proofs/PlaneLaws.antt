@@ -23,9 +23,6 @@ module _ {a b c : Point} {t : PlaneTriangle} (at : PlaneAt a b c t) where
     at-r = subst (Sized n) (sym (at .at-r)) sc;
   }
 
-  pub test-at : (test : Point → Point → Point → Bool) → ofCorners test t ≡ test a b c
-  test-at test = λ i. test (at .at-p i) (at .at-q i) (at .at-r i)
-
 -- The triangle of a list that passed its checks.
 pub sized-triangle : {l : List ℤ} {t : PlaneTriangle} → Ready 6 l → PlaneAt (pointAt 2 0 l) (pointAt 2 2 l) (pointAt 2 4 l) t → SizedTriangle limit t
 sized-triangle ready at = size-at at (sized-point ready 2 0 refl) (sized-point ready 2 2 refl) (sized-point ready 2 4 refl)

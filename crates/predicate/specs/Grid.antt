@@ -6,6 +6,7 @@ use Prim.Native.Nat.{ℕ, suc, _≤_}
 use lib.Dec.{leb}
 use lib.IntN.{ℤ, pos, natAbs}
 use lib.ListN.{length, getD}
+use Rattle.shape.specs.Flat.{allBelow}
 
 -- src/grid.rt names the same number.
 abbrev pub limit : ℕ
@@ -18,6 +19,10 @@ onGrid z = leb (natAbs z) limit
 abbrev pub lowestOff : List ℤ → ℕ
 lowestOff [] = 0
 lowestOff (z ∷ numbers) = cond (onGrid z) (suc (lowestOff numbers)) 0
+
+-- Whether every number of a list is on the grid.
+abbrev pub allOn : List ℤ → Bool
+allOn numbers = allBelow (length numbers) (λ k. onGrid (getD numbers k (pos 0)))
 
 -- A list that was checked: it has the wanted length, and every number is on the grid (past the end stands 0).
 pub record Ready (want : ℕ) (numbers : List ℤ) : Type 0 where

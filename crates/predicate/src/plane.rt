@@ -172,7 +172,7 @@ fn past_two(first: PlaneTriangle, second: PlaneTriangle) -> bool
         if right_of(first.q, first.r, second.r) {
             return last_edges(first, second);
         }
-        return !right_of(first.p, second.p, first.r);
+        return !right_of(first.p, second.p, first.r); // p2 in the first triangle, or q1 → r1 across r2 → p2
     }
     if right_of(second.q, second.r, first.q) {
         if right_of(second.q, first.p, first.q) {

@@ -55,19 +55,20 @@ fn pattern_of(t: SpaceTriangle, u: SpaceTriangle) -> u32
         + level_at(u.p, u.q, u.r, t.r)
 }
 
-// The standing that a pattern names. A digit is 0 for a corner below the plane, 1 on it, 2 above it; the first corner's counts nine.
+// The standing that a pattern names. A digit is 0 for a corner below the plane, 1 on it, 2 above it, and the first corner's counts
+// nine; beside each arm stand its patterns, a sign for each corner.
 fn standing_of(pattern: u32) -> Standing
     ensures { λ r. ⌜ toldStanding r ≡ standing pattern ⌝ }
 {
     match pattern {
-        ..=0 | 26.. => Standing::Beside,
-        13..=13 => Standing::Within,
-        9 | 18..=19 | 21..=22 => Standing::Alone(0, false),
-        4..=5 | 7..=8 | 17 => Standing::Alone(0, true),
-        3 | 6 | 15..=16 => Standing::Alone(1, false),
-        10..=11 | 20 | 23 => Standing::Alone(1, true),
-        1..=2 | 14 => Standing::Alone(2, false),
-        _ => Standing::Alone(2, true),
+        ..=0 | 26.. => Standing::Beside, // --- and +++
+        13..=13 => Standing::Within, // 000
+        9 | 18..=19 | 21..=22 => Standing::Alone(0, false), // 0-- +-- +-0 +0- +00
+        4..=5 | 7..=8 | 17 => Standing::Alone(0, true), // -00 -0+ -+0 -++ 0++
+        3 | 6 | 15..=16 => Standing::Alone(1, false), // -0- -+- 0+- 0+0
+        10..=11 | 20 | 23 => Standing::Alone(1, true), // 0-0 0-+ +-+ +0+
+        1..=2 | 14 => Standing::Alone(2, false), // --0 --+ 00+
+        _ => Standing::Alone(2, true), // 00- ++- ++0
     }
 }
 

@@ -80,7 +80,7 @@ zero-says (pos (suc n)) = says-no (λ e. let y : _≡_ {A = ℕ} (suc n) 0 = cc 
 zero-says (negsuc n) = says-no (λ e. let y : _≡_ {A = ℕ} 0 1 = cc in omega arith)
 
 -- A test of each i below n that says whether F i holds: together they say whether it holds of all.
-below-says : (n : ℕ) (F : ℕ → Type 0) (test : ℕ → Bool) → ((i : ℕ) → Says (test i) (F i)) → Says (allBelow n test) ((i : ℕ) → i < n → F i)
+pub below-says : (n : ℕ) (F : ℕ → Type 0) (test : ℕ → Bool) → ((i : ℕ) → Says (test i) (F i)) → Says (allBelow n test) ((i : ℕ) → i < n → F i)
 below-says zero F test says = says-yes (λ i l. absurd (omega arith))
 below-says (suc n) F test says = both (test n) (says n) (allBelow n test) (below-says n F test says)
   where

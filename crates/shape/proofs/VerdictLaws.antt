@@ -1,5 +1,5 @@
 -- Laws of what a verdict says (specs/Verdicts.antt). Assumes nothing.
-use mathlib.Core.Path.{_≡_, refl, sym, subst}
+use mathlib.Core.Path.{_≡_, refl, sym, subst, _∙_}
 use mathlib.Core.Bool.{Bool, true, false, not, cond}
 use mathlib.Core.Logic.{_↔_}
 use lib.Dec.{T}
@@ -16,6 +16,10 @@ says-yes claim = record { yes = λ e. claim; no = λ e. absurd (true-is-not-fals
 
 pub says-no : {Claim : Type 0} → (Claim → ⊥) → Says false Claim
 says-no never = record { yes = λ e. absurd (true-is-not-false (sym e)); no = λ e. never }
+
+-- A test says whether it is passed.
+pub says-itself : (v : Bool) → Says v (v ≡ true)
+says-itself v = record { yes = λ e. e; no = λ e f. true-is-not-false (sym f ∙ e) }
 
 -- A decision by a sign: what is right below zero, and what is right elsewhere.
 pub says-by-sign : {Claim : Type 0} {v w : Bool} (z : ℤ) → (z <ℤ pos 0 → Says v Claim) → (pos 0 ≤ℤ z → Says w Claim) →

@@ -2,10 +2,9 @@
 -- No public promise speaks of them; code computes them. proofs/PlaneTest.antt shows that each says yes exactly when the two
 -- shapes have a point in common.
 use mathlib.Core.Bool.{Bool, true, false, cond}
-use mathlib.Core.List.{[], _∷_}
 use lib.IntN.{pos}
 use lib.Signed.{ltZ}
-use Rattle.shape.specs.Points.{Point, Shape}
+use Rattle.shape.specs.Points.{Point}
 use Rattle.shape.specs.Signs.{turn}
 
 -- Whether c lies strictly right of a → b.
@@ -13,23 +12,16 @@ abbrev pub isRight : Point → Point → Point → Bool
 isRight a b c = ltZ (turn a b c) (pos 0)
 
 -- ---- where the first corner stands
--- The corners a b c so that they turn left: where they turn right, two trade places.
-abbrev pub leftOrder : Point → Point → Point → Shape
-leftOrder a b c = cond (isRight a b c) (a ∷ c ∷ b ∷ []) (a ∷ b ∷ c ∷ [])
-
--- A test of a triangle that turns left, asked of a b c.
+-- A test of a triangle that turns left, asked of a b c: where they turn right, two trade places.
 abbrev pub inLeftOrder : (Point → Point → Point → Bool) → Point → Point → Point → Bool
 inLeftOrder test a b c = cond (isRight a b c) (test a c b) (test a b c)
 
 -- The point p sorted by its signs against the edges of the triangle a b c, which turns left. Strictly right of no edge, p is in
 -- the triangle: yes. Right of one edge or of two (never of three), the triangle is turned so that they come last.
-abbrev pub sortedPast : Point → (pastOne pastTwo : Point → Point → Point → Bool) → Point → Point → Point → Bool
-sortedPast p pastOne pastTwo a b c =
-    cond (isRight b c p) (pastTwo c a b) (cond (isRight c a p) (pastTwo b c a) (pastOne b c a))
-
 abbrev pub sorted : Point → (pastOne pastTwo : Point → Point → Point → Bool) → Point → Point → Point → Bool
 sorted p pastOne pastTwo a b c =
-    cond (isRight a b p) (sortedPast p pastOne pastTwo a b c)
+    cond (isRight a b p)
+    (cond (isRight b c p) (pastTwo c a b) (cond (isRight c a p) (pastTwo b c a) (pastOne b c a)))
     (cond (isRight b c p)
     (cond (isRight c a p) (pastTwo a b c) (pastOne c a b))
     (cond (isRight c a p) (pastOne a b c) true))
@@ -65,10 +57,7 @@ trianglePastTwo p1 q1 r1 p2 q2 r2 =
     (cond (isRight p1 p2 q1) (cornerIn p1 q1 r1 p2)
     (cond (isRight q2 p1 q1) false true)))
 
--- p1 sorted by its signs: where it is right of p2 → q2, and wherever it is.
-abbrev pub trianglePast : (p1 q1 r1 p2 q2 r2 : Point) → Bool
-trianglePast p1 q1 r1 = sortedPast p1 (trianglePastOne p1 q1 r1) (trianglePastTwo p1 q1 r1)
-
+-- p1 sorted by its signs.
 abbrev pub triangleSorted : (p1 q1 r1 p2 q2 r2 : Point) → Bool
 triangleSorted p1 q1 r1 = sorted p1 (trianglePastOne p1 q1 r1) (trianglePastTwo p1 q1 r1)
 

@@ -1,18 +1,29 @@
--- `predicate::grid::grid_checked` meets its contract: it refuses exactly where the lowest position off the grid is in the list.
--- Assumes nothing.
+-- `predicate::grid::grid_checked` meets its contract: a place is sought only where some number is off the grid. Assumes nothing.
 use borrow.Author.Needs.{needs}
-use borrow.Author.Tests.{lt-ltb, le-ltb}
+use mathlib.Core.Path.{refl, sym, ap, _∙_}
+use Prim.Native.Nat.{ℕ}
+use Rattle.predicate.specs.Answers.{refused}
+use Rattle.predicate.proofs.Branches.{if-taken, if-left}
+use Rattle.predicate.proofs.GridLaws.{none-off, one-off}
 use Rattle.predicate.proofs.grid.grid_checked.Statement.{statement}
 use Rattle.predicate.proofs.grid.grid_checked.Tie as tie
+
+all-on-requires : tie.Need-all-on-requires
+all-on-requires c κs = search needs
+
+returns : tie.Need-returns
+returns c =
+    let p = c .before in
+    if-left _ _ (sym (none-off (p .before .args .numbers .now) (sym (p .all-on .ensures) ∙ c .if1 .taken))) refl refl
 
 lowest-off-requires : tie.Need-lowest-off-requires
 lowest-off-requires c κs = search needs
 
-returns : tie.Need-returns
-returns c = rw (← c .before .lowest-off .ensures) (simp (lt-ltb _ _ (c .if1 .taken)))
-
 returns-2 : tie.Need-returns-2
-returns-2 c = rw (← c .before .lowest-off .ensures) (simp (le-ltb _ _ (c .if1 .left)))
+returns-2 c =
+    let p = c .before .before in
+    if-taken _ _ (sym (one-off (p .before .args .numbers .now) (sym (p .all-on .ensures) ∙ c .before .if1 .left))) refl
+    (ap (λ (place : ℕ). refused 1 (p .before .args .side) place) (c .lowest-off .ensures))
 
 pub grid-checked-spec : {M : Type 1} → statement M
-grid-checked-spec = tie.close (tie.spec lowest-off-requires returns returns-2)
+grid-checked-spec = tie.close (tie.spec all-on-requires returns lowest-off-requires returns-2)
