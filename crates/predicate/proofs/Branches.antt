@@ -1,4 +1,4 @@
--- A decision by tests (`cond`), read off the branch that code took. Assumes nothing.
+-- A decision by tests (`cond`), read off the branch that code took; and a number in a window, by cases. Assumes nothing.
 use mathlib.Core.Path.{_≡_, refl, sym, ap, _∙_}
 use mathlib.Core.Bool.{Bool, true, false, not, cond}
 use Prim.Native.Nat.{ℕ, zero, suc, _+_, _<_, _≤_}

@@ -4,7 +4,8 @@
 --   GridLaws      the lowest position off the grid; points of a list that is on it
 --   CheckLaws     what each check finds, by its cases
 --   Branches      a decision by tests, read off the branch that was taken
---   PairLaws, PlaneLaws, ValueLaws   what a verdict call, the flat test and a value call answer
+--   PairLaws, ValueLaws   what a verdict call and a value call answer
+--   PlaneLaws, SpaceLaws   triangles of the plane and of space, as the tests take them
 -- and the theorems that stand beside the contracts:
 --   Exactly, PairTable   each reason exactly in its case: the sign and value calls, the verdict calls
 --   Symmetry      trading the shapes and reordering corners leave the verdict

@@ -1,5 +1,5 @@
-// The exact predicates: the sign of the turn of three flat points and of the side of four space points, and the verdict on two
-// triangles in the plane.
+// The exact predicates: the sign of the turn of three flat points and of the side of four space points, and the verdicts on two
+// triangles in the plane, on a segment and a triangle in space and on two triangles in space.
 //
 // A call takes its points or shapes as lent lists of numbers and has no `requires`: what it can't serve it refuses, by document
 // 01's number, side and place. specs/Rules.antt gives the answer to every list, specs/Told.antt says what each case of an

@@ -1,10 +1,7 @@
 -- `predicate::signs::points_checked` meets its contract: where the length is refused nothing else counts, and where it is fine the grid decides.
 -- Assumes nothing.
 use borrow.Author.Needs.{needs}
-use mathlib.Core.Path.{sym, ap, _∙_}
-use Rattle.predicate.specs.Answers.{Check, _then_}
-use Rattle.predicate.specs.Rules.{allOnGrid}
-use Rattle.predicate.specs.Told.{toldCheck}
+use Rattle.predicate.proofs.AnswerLaws.{stopped, passed-on}
 use Rattle.predicate.proofs.signs.points_checked.Statement.{statement}
 use Rattle.predicate.proofs.signs.points_checked.Tie as tie
 
@@ -21,15 +18,10 @@ second-requires : tie.Need-grid-checked-requires
 second-requires c κs = search needs
 
 returns : tie.Need-returns
-returns c =
-    let p = c .before .before .before in
-    sym (ap (λ (x : Check). x then allOnGrid 0 (p .before .args .numbers .now)) (sym (p .length-checked .ensures) ∙ ap toldCheck (c .before .why .given .1)))
+returns c = stopped _ _ (c .before .before .before .length-checked .ensures) (c .before .why .given .1)
 
 returns-2 : tie.Need-returns-2
-returns-2 c =
-    let p = c .before .before .before in
-    c .grid-checked .ensures
-    ∙ sym (ap (λ (x : Check). x then allOnGrid 0 (p .before .args .numbers .now)) (sym (p .length-checked .ensures) ∙ ap toldCheck (c .before .enum-told .given .1)))
+returns-2 c = passed-on _ (c .before .before .before .length-checked .ensures) (c .before .enum-told .given .1) (c .grid-checked .ensures)
 
 pub points-checked-spec : {M : Type 1} → statement M
 points-checked-spec =
