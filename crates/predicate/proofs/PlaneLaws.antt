@@ -69,15 +69,15 @@ segment-ordered p q t e =
 -- ---- the verdict by a sorted triangle: past no edge, one edge, or two
 module _ (p : Point) (one two : Point → Point → Point → Bool) {t : PlaneTriangle} {s : Sorted} (so : SortedAs p t s) where
   past-none : s .past ≡ 0 → true ≡ ofCorners (sorted p one two) t
-  past-none e = sym (ap (λ (n : ℕ). byPast n (s .triangle) one two) e) ∙ so .told one two
+  past-none e = sym (ap (λ (n : ℕ). byPast n (s .of) one two) e) ∙ so .told one two
 
-  past-one : {r : Bool} → s .past ≡ 1 → r ≡ ofCorners one (s .triangle) → r ≡ ofCorners (sorted p one two) t
-  past-one e f = f ∙ sym (ap (λ (n : ℕ). byPast n (s .triangle) one two) e) ∙ so .told one two
+  past-one : {r : Bool} → s .past ≡ 1 → r ≡ ofCorners one (s .of) → r ≡ ofCorners (sorted p one two) t
+  past-one e f = f ∙ sym (ap (λ (n : ℕ). byPast n (s .of) one two) e) ∙ so .told one two
 
-  past-two : {r : Bool} → (s .past ≡ 0 → ⊥) → (s .past ≡ 1 → ⊥) → r ≡ ofCorners two (s .triangle) → r ≡ ofCorners (sorted p one two) t
+  past-two : {r : Bool} → (s .past ≡ 0 → ⊥) → (s .past ≡ 1 → ⊥) → r ≡ ofCorners two (s .of) → r ≡ ofCorners (sorted p one two) t
   past-two h k f = f ∙ more (s .past) h k ∙ so .told one two
     where
-      more : (n : ℕ) → (n ≡ 0 → ⊥) → (n ≡ 1 → ⊥) → ofCorners two (s .triangle) ≡ byPast n (s .triangle) one two
+      more : (n : ℕ) → (n ≡ 0 → ⊥) → (n ≡ 1 → ⊥) → ofCorners two (s .of) ≡ byPast n (s .of) one two
       more zero h k = absurd (h refl)
       more (suc zero) h k = absurd (k refl)
       more (suc (suc n)) h k = refl
@@ -94,10 +94,10 @@ module _ (t u : PlaneTriangle) {first second : PlaneTriangle} {s : Sorted} (e : 
   pub triangles-none : s .past ≡ 0 → true ≡ ofBoth triangleTest t u
   triangles-none h = past-none (planar (first .p)) one two so h ∙ both-ordered t u e f
 
-  pub triangles-one : {r : Bool} → s .past ≡ 1 → r ≡ ofBoth trianglePastOne first (s .triangle) → r ≡ ofBoth triangleTest t u
+  pub triangles-one : {r : Bool} → s .past ≡ 1 → r ≡ ofBoth trianglePastOne first (s .of) → r ≡ ofBoth triangleTest t u
   triangles-one h g = past-one (planar (first .p)) one two so h g ∙ both-ordered t u e f
 
-  pub triangles-two : {r : Bool} → (s .past ≡ 0 → ⊥) → (s .past ≡ 1 → ⊥) → r ≡ ofBoth trianglePastTwo first (s .triangle) → r ≡ ofBoth triangleTest t u
+  pub triangles-two : {r : Bool} → (s .past ≡ 0 → ⊥) → (s .past ≡ 1 → ⊥) → r ≡ ofBoth trianglePastTwo first (s .of) → r ≡ ofBoth triangleTest t u
   triangles-two h k g = past-two (planar (first .p)) one two so h k g ∙ both-ordered t u e f
 
 -- A segment p q, and a triangle in left-turn order and sorted by p.
@@ -105,8 +105,8 @@ module _ (p q : Point) (t : PlaneTriangle) {ordered : PlaneTriangle} {s : Sorted
   pub segment-none : s .past ≡ 0 → true ≡ ofCorners (segmentTest p q) t
   segment-none h = past-none p (segmentPastOne p q) (segmentPastTwo p q) so h ∙ segment-ordered p q t e
 
-  pub segment-one : {r : Bool} → s .past ≡ 1 → r ≡ ofCorners (segmentPastOne p q) (s .triangle) → r ≡ ofCorners (segmentTest p q) t
+  pub segment-one : {r : Bool} → s .past ≡ 1 → r ≡ ofCorners (segmentPastOne p q) (s .of) → r ≡ ofCorners (segmentTest p q) t
   segment-one h g = past-one p (segmentPastOne p q) (segmentPastTwo p q) so h g ∙ segment-ordered p q t e
 
-  pub segment-two : {r : Bool} → (s .past ≡ 0 → ⊥) → (s .past ≡ 1 → ⊥) → r ≡ ofCorners (segmentPastTwo p q) (s .triangle) → r ≡ ofCorners (segmentTest p q) t
+  pub segment-two : {r : Bool} → (s .past ≡ 0 → ⊥) → (s .past ≡ 1 → ⊥) → r ≡ ofCorners (segmentPastTwo p q) (s .of) → r ≡ ofCorners (segmentTest p q) t
   segment-two h k g = past-two p (segmentPastOne p q) (segmentPastTwo p q) so h k g ∙ segment-ordered p q t e

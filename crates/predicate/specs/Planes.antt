@@ -45,5 +45,5 @@ byPast (suc (suc n)) t pastOne pastTwo = ofCorners pastTwo t
 
 -- The triangle t, sorted by the signs of the point p: whatever is decided past one edge and past two, s decides as p and t do.
 pub record SortedAs (p : Point) (t : PlaneTriangle) (s : Sorted) : Type 0 where
-  pub sized : SizedTriangle limit (s .triangle)
-  pub told : (pastOne pastTwo : Point → Point → Point → Bool) → byPast (s .past) (s .triangle) pastOne pastTwo ≡ ofCorners (sorted p pastOne pastTwo) t
+  pub sized : SizedTriangle limit (s .of)
+  pub told : (pastOne pastTwo : Point → Point → Point → Bool) → byPast (s .past) (s .of) pastOne pastTwo ≡ ofCorners (sorted p pastOne pastTwo) t

@@ -19,10 +19,10 @@ pub struct PlaneTriangle {
     pub r: PlanePoint,
 }
 
-// A triangle turned so that the edges come last that some point is strictly right of: none, one or two of them are past.
+// A triangle turned so that the edges come last that some point is strictly right of, its past edges: none, one or two.
 pub struct Sorted {
     pub past: u32,
-    pub triangle: PlaneTriangle,
+    pub of: PlaneTriangle,
 }
 
 // The triangle that fills a list of six numbers.
@@ -78,44 +78,23 @@ fn sorted_by(p: PlanePoint, t: PlaneTriangle) -> Sorted
     let twice = turned(once);
     if right_of(t.p, t.q, p) {
         if right_of(t.q, t.r, p) {
-            return Sorted {
-                past: 2,
-                triangle: twice,
-            };
+            return Sorted { past: 2, of: twice };
         }
         if right_of(t.r, t.p, p) {
-            return Sorted {
-                past: 2,
-                triangle: once,
-            };
+            return Sorted { past: 2, of: once };
         }
-        return Sorted {
-            past: 1,
-            triangle: once,
-        };
+        return Sorted { past: 1, of: once };
     }
     if right_of(t.q, t.r, p) {
         if right_of(t.r, t.p, p) {
-            return Sorted {
-                past: 2,
-                triangle: t,
-            };
+            return Sorted { past: 2, of: t };
         }
-        return Sorted {
-            past: 1,
-            triangle: twice,
-        };
+        return Sorted { past: 1, of: twice };
     }
     if right_of(t.r, t.p, p) {
-        return Sorted {
-            past: 1,
-            triangle: t,
-        };
+        return Sorted { past: 1, of: t };
     }
-    Sorted {
-        past: 0,
-        triangle: t,
-    } // p is in the triangle
+    Sorted { past: 0, of: t }
 }
 
 // Where p1 → q1 passes beyond p2: p2 is in the first triangle.
@@ -197,9 +176,9 @@ pub fn planes_meet(t: PlaneTriangle, u: PlaneTriangle) -> bool
         return true; // p1 is in the second triangle
     }
     if sorted.past == 1 {
-        return past_one(first, sorted.triangle);
+        return past_one(first, sorted.of);
     }
-    past_two(first, sorted.triangle)
+    past_two(first, sorted.of)
 }
 
 // p is strictly right of r → p of the triangle t and of no other edge.
@@ -243,7 +222,7 @@ pub fn segment_meets_plane(p: PlanePoint, q: PlanePoint, t: PlaneTriangle) -> bo
         return true; // p is in the triangle
     }
     if sorted.past == 1 {
-        return segment_past_one(p, q, sorted.triangle);
+        return segment_past_one(p, q, sorted.of);
     }
-    segment_past_two(p, q, sorted.triangle)
+    segment_past_two(p, q, sorted.of)
 }

@@ -1,11 +1,10 @@
 -- `predicate::verdicts::flat_verdict` meets its contract: what the checks refuse is refused, and the verdict on what they pass is that of
 -- the flat test, which is right. Assumes nothing.
 use borrow.Author.Needs.{needs}
-use mathlib.Core.Path.{sym, ap, _∙_}
+use mathlib.Core.Path.{ap, _∙_}
 use Rattle.shape.specs.PlaneTest.{triangleTest}
 use Rattle.shape.proofs.PlaneTest.{triangle-test}
 use Rattle.predicate.specs.Answers.{served}
-use Rattle.predicate.specs.Told.{toldCheck}
 use Rattle.predicate.proofs.PairLaws.{both-passed, refused-by-checks, judged}
 use Rattle.predicate.proofs.PlaneLaws.{sized-triangle}
 use Rattle.predicate.proofs.verdicts.flat_verdict.Statement.{statement}
@@ -24,19 +23,19 @@ plane-triangle-requires : tie.Need-plane-triangle-requires
 plane-triangle-requires c κs =
     let q = c .before .before in
     let a = q .before .args in
-    both-passed 2 3 3 (a .first .now) (a .second .now) (sym (q .pair-checked .ensures) ∙ ap toldCheck (c .enum-told .given .1)) .0 .ready
+    both-passed 2 3 3 (a .first .now) (a .second .now) (q .pair-checked .ensures) (c .enum-told .given .1) .0 .ready
 
 plane-triangle-requires-2 : tie.Need-plane-triangle-requires-2
 plane-triangle-requires-2 c κs =
     let q = c .before .before .before in
     let a = q .before .args in
-    both-passed 2 3 3 (a .first .now) (a .second .now) (sym (q .pair-checked .ensures) ∙ ap toldCheck (c .before .enum-told .given .1)) .1 .ready
+    both-passed 2 3 3 (a .first .now) (a .second .now) (q .pair-checked .ensures) (c .before .enum-told .given .1) .1 .ready
 
 planes-meet-requires : tie.Need-planes-meet-requires
 planes-meet-requires c κs =
     let q = c .before .before .before .before in
     let a = q .before .args in
-    let both = both-passed 2 3 3 (a .first .now) (a .second .now) (sym (q .pair-checked .ensures) ∙ ap toldCheck (c .before .before .enum-told .given .1)) in
+    let both = both-passed 2 3 3 (a .first .now) (a .second .now) (q .pair-checked .ensures) (c .before .before .enum-told .given .1) in
     (sized-triangle (both .0 .ready) (c .before .plane-triangle .ensures), sized-triangle (both .1 .ready) (c .plane-triangle2 .ensures))
 
 verdict-requires : tie.Need-verdict-requires
@@ -45,18 +44,17 @@ verdict-requires c κs = search needs
 returns : tie.Need-returns
 returns c =
     let q = c .before .before .before in
-    refused-by-checks 2 3 3 (q .before .args .first .now) (q .before .args .second .now) _
-    (sym (q .pair-checked .ensures) ∙ ap toldCheck (c .before .why .given .1))
+    refused-by-checks 2 3 3 (q .before .args .first .now) (q .before .args .second .now) (q .pair-checked .ensures) _ (c .before .why .given .1)
 
 returns-2 : tie.Need-returns-2
 returns-2 c =
     let q = c .before .before .before .before .before .before in
     let a = q .before .args in
-    let fine = sym (q .pair-checked .ensures) ∙ ap toldCheck (c .before .before .before .before .enum-told .given .1) in
-    let both = both-passed 2 3 3 (a .first .now) (a .second .now) fine in
+    let fine = c .before .before .before .before .enum-told .given .1 in
+    let both = both-passed 2 3 3 (a .first .now) (a .second .now) (q .pair-checked .ensures) fine in
     let t = c .before .before .before .plane-triangle .ensures in
     let u = c .before .before .plane-triangle2 .ensures in
-    judged 2 3 3 (a .first .now) (a .second .now) _ fine
+    judged 2 3 3 (a .first .now) (a .second .now) (q .pair-checked .ensures) _ fine
     (c .verdict .ensures ∙ ap served (c .before .planes-meet .ensures ∙ (λ i. triangleTest (t .at-p i) (t .at-q i) (t .at-r i) (u .at-p i) (u .at-q i) (u .at-r i))))
     (triangle-test _ _ _ _ _ _ (both .0 .not-flat) (both .1 .not-flat))
 

@@ -1,12 +1,11 @@
 -- `predicate::verdicts::segment_verdict` meets its contract: what the checks refuse is refused, and the verdict on what they pass is that
 -- of the test in space, which is right. Assumes nothing.
 use borrow.Author.Needs.{needs}
-use mathlib.Core.Path.{sym, ap, _∙_}
+use mathlib.Core.Path.{ap, _∙_}
 use native.Mathlib.Omega.{arith}
 use Rattle.shape.specs.SpaceTest.{segmentSpaceTest}
 use Rattle.shape.proofs.SpaceTest.{segment-space-test}
 use Rattle.predicate.specs.Answers.{served}
-use Rattle.predicate.specs.Told.{toldCheck}
 use Rattle.predicate.proofs.GridLaws.{sized-point}
 use Rattle.predicate.proofs.PairLaws.{both-passed, refused-by-checks, judged}
 use Rattle.predicate.proofs.SpaceLaws.{sized-triangle}
@@ -26,25 +25,25 @@ space-point-requires : tie.Need-space-point-requires
 space-point-requires c κs =
     let q = c .before .before in
     let a = q .before .args in
-    omega (arith, both-passed 3 2 3 (a .first .now) (a .second .now) (sym (q .pair-checked .ensures) ∙ ap toldCheck (c .enum-told .given .1)) .0 .ready .long)
+    omega (arith, both-passed 3 2 3 (a .first .now) (a .second .now) (q .pair-checked .ensures) (c .enum-told .given .1) .0 .ready .long)
 
 space-point-requires-2 : tie.Need-space-point-requires-2
 space-point-requires-2 c κs =
     let q = c .before .before .before in
     let a = q .before .args in
-    omega (arith, both-passed 3 2 3 (a .first .now) (a .second .now) (sym (q .pair-checked .ensures) ∙ ap toldCheck (c .before .enum-told .given .1)) .0 .ready .long)
+    omega (arith, both-passed 3 2 3 (a .first .now) (a .second .now) (q .pair-checked .ensures) (c .before .enum-told .given .1) .0 .ready .long)
 
 space-triangle-requires : tie.Need-space-triangle-requires
 space-triangle-requires c κs =
     let q = c .before .before .before .before in
     let a = q .before .args in
-    both-passed 3 2 3 (a .first .now) (a .second .now) (sym (q .pair-checked .ensures) ∙ ap toldCheck (c .before .before .enum-told .given .1)) .1 .ready
+    both-passed 3 2 3 (a .first .now) (a .second .now) (q .pair-checked .ensures) (c .before .before .enum-told .given .1) .1 .ready
 
 segment-meets-space-requires : tie.Need-segment-meets-space-requires
 segment-meets-space-requires c κs =
     let q = c .before .before .before .before .before in
     let a = q .before .args in
-    let both = both-passed 3 2 3 (a .first .now) (a .second .now) (sym (q .pair-checked .ensures) ∙ ap toldCheck (c .before .before .before .enum-told .given .1)) in (
+    let both = both-passed 3 2 3 (a .first .now) (a .second .now) (q .pair-checked .ensures) (c .before .before .before .enum-told .given .1) in (
       sized-point (both .0 .ready) 3 0 (c .before .before .space-point .ensures),
       sized-point (both .0 .ready) 3 3 (c .before .space-point2 .ensures),
       sized-triangle (both .1 .ready) (c .space-triangle .ensures),
@@ -56,19 +55,18 @@ verdict-requires c κs = search needs
 returns : tie.Need-returns
 returns c =
     let q = c .before .before .before in
-    refused-by-checks 3 2 3 (q .before .args .first .now) (q .before .args .second .now) _
-    (sym (q .pair-checked .ensures) ∙ ap toldCheck (c .before .why .given .1))
+    refused-by-checks 3 2 3 (q .before .args .first .now) (q .before .args .second .now) (q .pair-checked .ensures) _ (c .before .why .given .1)
 
 returns-2 : tie.Need-returns-2
 returns-2 c =
     let q = c .before .before .before .before .before .before .before in
     let a = q .before .args in
-    let fine = sym (q .pair-checked .ensures) ∙ ap toldCheck (c .before .before .before .before .before .enum-told .given .1) in
-    let both = both-passed 3 2 3 (a .first .now) (a .second .now) fine in
+    let fine = c .before .before .before .before .before .enum-told .given .1 in
+    let both = both-passed 3 2 3 (a .first .now) (a .second .now) (q .pair-checked .ensures) fine in
     let x = c .before .before .before .before .space-point .ensures in
     let y = c .before .before .before .space-point2 .ensures in
     let t = c .before .before .space-triangle .ensures in
-    judged 3 2 3 (a .first .now) (a .second .now) _ fine
+    judged 3 2 3 (a .first .now) (a .second .now) (q .pair-checked .ensures) _ fine
     (c .verdict .ensures ∙ ap served (c .before .segment-meets-space .ensures ∙ (λ i. segmentSpaceTest (x i) (y i) (t .at-p i) (t .at-q i) (t .at-r i))))
     (segment-space-test _ _ _ _ _ (both .1 .not-flat))
 
