@@ -42,9 +42,6 @@ module _ (n k m : ℕ) (first second : List ℤ) where
   abbrev together : (a b c d e f : Check) → Check
   together a b c d e f = a then b then (c then d) then (e then f)
 
-  abbrev first-long : Check
-  first-long = rightLength 0 (k * n) first
-
   abbrev second-long : Check
   second-long = rightLength 1 (m * n) second
 
