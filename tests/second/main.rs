@@ -23,8 +23,10 @@ use tally::{Cases, Tally};
 
 const USAGE: &str = "usage: second [--pairs N] [--seed S] [--tiny]";
 const DEFAULT_PAIRS: u64 = 1_000_000;
-/// From this many pairs on, a case that never came up is a fault of the inputs: the rarest comes up some forty times.
-const PAIRS_THAT_MEET_ALL_CASES: u64 = 1_000_000;
+/// From this many pairs on, a case that never came up is a fault of the inputs.
+const PAIRS_THAT_MEET_ALL_CASES: u64 = 100_000;
+/// The same of the finer cases, of how the shapes lay: the rarest comes up some forty times in so many.
+const PAIRS_THAT_MEET_FINER_CASES: u64 = 1_000_000;
 /// This many inputs go to the door at once.
 const BATCH: u64 = 1_000;
 
@@ -140,7 +142,11 @@ fn compare_all(mut door: Door, settings: &Settings) -> Result<String, String> {
     door.close()?;
     tallies.iter().for_each(|tally| say(&tally.line()));
     if settings.pairs >= PAIRS_THAT_MEET_ALL_CASES {
-        let missed: Vec<String> = tallies.iter().flat_map(|tally| tally.missed(!settings.tiny)).collect();
+        let with_finer = settings.pairs >= PAIRS_THAT_MEET_FINER_CASES;
+        let missed = tallies
+            .iter()
+            .flat_map(|tally| tally.missed(!settings.tiny, with_finer));
+        let missed: Vec<String> = missed.collect();
         if !missed.is_empty() {
             return Err(format!("cases never met: {}", missed.join("; ")));
         }

@@ -155,9 +155,11 @@ impl Tally {
     }
 
     /// The cases that a large run must have met and didn't.
-    pub fn missed(&self, with_refusals: bool) -> Vec<String> {
+    pub fn missed(&self, with_refusals: bool, with_finer: bool) -> Vec<String> {
         let mut counts = self.counts(with_refusals);
-        counts.extend(self.meetings.fine_counts());
+        if with_finer {
+            counts.extend(self.meetings.fine_counts());
+        }
         if with_refusals && self.sides() == 2 {
             counts.extend(self.mixtures.counts());
         }

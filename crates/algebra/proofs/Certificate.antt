@@ -38,10 +38,10 @@ use mathlib.Core.List.{List, [], _∷_}
 use Prim.Native.Nat.{ℕ, zero, suc}
 use native.Mathlib.Omega.{arith}
 use lib.Dec.{T}
-use lib.IntN.{ℤ, pos, _+ℤ_, _-ℤ_, _*ℤ_, +ℤ-invr, zero-*ℤ, *ℤ-zero}
+use lib.IntN.{ℤ, pos, negsuc, _+ℤ_, _-ℤ_, _*ℤ_, +ℤ-invr, zero-*ℤ, *ℤ-zero}
 use lib.Signed.{_≤ℤ_, _<ℤ_, ≤ℤ-refl, <ℤ-irrefl}
-use Rattle.algebra.proofs.Order.{eq-of-sub, zero-of-mul, sub-nonneg, le-of-sub, sub-pos, lt-of-sub, weak, 0≤-pos, 0<-pos, 0≤-add, 0<-addl, 0<-addr, 0≤-mul, 0<-mul, 0≤-sq, 0≤-div, 0<-div}
-use Rattle.algebra.proofs.Expression.{Ex, lit, _⊞_, _⊟_, _⊠_, value}
+use Rattle.algebra.proofs.Order.{ThreeWay, minus, none, plus, three-way, eq-of-sub, zero-of-mul, sub-nonneg, le-of-sub, sub-pos, lt-of-sub, weak, 0≤-pos, 0<-pos, 0≤-add, 0<-addl, 0<-addr, 0≤-mul, 0<-mul, 0≤-sq, 0≤-div, 0<-div}
+use Rattle.algebra.proofs.Expression.{Ex, var, lit, _⊞_, _⊟_, _⊠_, value}
 use Rattle.algebra.proofs.Solver.{ring, lowDegree, Same}
 
 -- ---- hypotheses
@@ -255,3 +255,14 @@ prove≡ ρ hs a b s c t z l e =
     (λ p. eq-of-sub (value ρ a) (value ρ b)
     (zero-of-mul (value ρ (sumOf hs s)) (value ρ b -ℤ value ρ a) (positive ρ hs s p t)
     (ring ρ (sumOf hs s ⊠ (b ⊟ a)) (sumOf hs c) l e ∙ is-zero ρ hs c p z)))
+
+-- ---- an equation divided by a factor of either sign: where the factor is not zero, it can be taken out
+pub factor-out : (c x y : ℤ) → (c ≡ pos 0 → ⊥) → c *ℤ x ≡ c *ℤ y → x ≡ y
+factor-out c x y not-zero = by-sign (three-way c)
+  where
+    by-sign : ThreeWay c → c *ℤ x ≡ c *ℤ y → x ≡ y
+    by-sign (minus h) =
+        prove≡ (c ∷ x ∷ y ∷ []) ((var 0 ≺ lit (pos 0)) ∷ (var 0 ⊠ var 1 ≐ var 0 ⊠ var 2) ∷ []) (var 1) (var 2) (hyp 0) (eqn 1 (lit (negsuc 0))) tt tt tt refl h
+    by-sign (none e) = absurd (not-zero e)
+    by-sign (plus h) =
+        prove≡ (c ∷ x ∷ y ∷ []) ((lit (pos 0) ≺ var 0) ∷ (var 0 ⊠ var 1 ≐ var 0 ⊠ var 2) ∷ []) (var 1) (var 2) (hyp 0) (eqn 1 (lit (pos 1))) tt tt tt refl h

@@ -1,4 +1,4 @@
--- A decision by tests (`cond`), read off the branch that code took; and a number in a window, by cases. Assumes nothing.
+-- A decision by tests (`cond`), read off the branch that code took; and a number by cases. Assumes nothing.
 use mathlib.Core.Path.{_≡_, refl, sym, ap, _∙_}
 use mathlib.Core.Bool.{Bool, true, false, not, cond}
 use Prim.Native.Nat.{ℕ, zero, suc, _+_, _<_, _≤_}
@@ -36,6 +36,12 @@ as-it-is {t} e = e ∙ itself t
     itself : (t : Bool) → t ≡ cond t true false
     itself true = refl
     itself false = refl
+
+-- A number that is neither 0 nor 1, where everything from 2 on is taken as 2.
+pub two-or-more : {A : Type 0} (f : ℕ → A) → ((n : ℕ) → f 2 ≡ f (suc (suc n))) → (k : ℕ) → (k ≡ 0 → ⊥) → (k ≡ 1 → ⊥) → f 2 ≡ f k
+two-or-more f same zero h i = absurd (h refl)
+two-or-more f same (suc zero) h i = absurd (i refl)
+two-or-more f same (suc (suc n)) h i = same n
 
 -- A number in a window of k numbers from a on: an answer for each of them.
 abbrev pub Cases : Type 0 → ℕ → ℕ → ℕ → Type 0

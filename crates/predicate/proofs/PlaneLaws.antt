@@ -3,7 +3,7 @@
 use mathlib.Core.Path.{_≡_, refl, sym, ap, _∙_, subst}
 use mathlib.Core.Bool.{Bool, true, false, cond}
 use mathlib.Core.List.{List}
-use Prim.Native.Nat.{ℕ, zero, suc}
+use Prim.Native.Nat.{ℕ}
 use lib.IntN.{ℤ}
 use Rattle.shape.specs.Points.{Point, pointAt}
 use Rattle.shape.specs.PlaneTest.{isRight, inLeftOrder, sorted, trianglePastOne, trianglePastTwo, triangleSorted, triangleTest, segmentPastOne, segmentPastTwo, segmentTest}
@@ -12,6 +12,7 @@ use Rattle.predicate.specs.Vectors.{planar, Sized}
 use Rattle.predicate.specs.Planes.{PlaneAt, SizedTriangle, SortedAs, turnedOnce, leftOrdered, byPast, ofCorners, ofBoth}
 use Rattle.predicate.specs.declared.plane.PlaneTriangle.{PlaneTriangle}
 use Rattle.predicate.specs.declared.plane.Sorted.{Sorted}
+use Rattle.predicate.proofs.Branches.{two-or-more}
 use Rattle.predicate.proofs.GridLaws.{sized-point}
 
 -- ---- the corners of a triangle that is known to stand at a, b, c
@@ -75,12 +76,7 @@ module _ (p : Point) (one two : Point → Point → Point → Bool) {t : PlaneTr
   past-one e f = f ∙ sym (ap (λ (n : ℕ). byPast n (s .of) one two) e) ∙ so .told one two
 
   past-two : {r : Bool} → (s .past ≡ 0 → ⊥) → (s .past ≡ 1 → ⊥) → r ≡ ofCorners two (s .of) → r ≡ ofCorners (sorted p one two) t
-  past-two h k f = f ∙ more (s .past) h k ∙ so .told one two
-    where
-      more : (n : ℕ) → (n ≡ 0 → ⊥) → (n ≡ 1 → ⊥) → ofCorners two (s .of) ≡ byPast n (s .of) one two
-      more zero h k = absurd (h refl)
-      more (suc zero) h k = absurd (k refl)
-      more (suc (suc n)) h k = refl
+  past-two h k f = f ∙ two-or-more (λ n. byPast n (s .of) one two) (λ n. refl) (s .past) h k ∙ so .told one two
 
 -- Two triangles, both in left-turn order and the second sorted by the first corner of the first.
 module _ (t u : PlaneTriangle) {first second : PlaneTriangle} {s : Sorted} (e : first ≡ leftOrdered t) (f : second ≡ leftOrdered u)

@@ -1,4 +1,4 @@
--- What the proofs of the tests in space share: levels, triangles in a new order, and coordinates dropped. Assumes nothing.
+-- What the proofs of the tests in space share: the table of standings, triangles in a new order, and coordinates dropped. Assumes nothing.
 use mathlib.Core.Path.{_≡_, refl, sym, _∙_, ap, subst}
 use mathlib.Core.Bool.{Bool, true, false}
 use mathlib.Core.List.{List, [], _∷_}
@@ -101,14 +101,3 @@ sized-as-without {n} k e s = subst (Sized n) (sym e) (sized-without k s)
 pub sized-dropped : {n : ℕ} (k : ℕ) {t : SpaceTriangle} {u : PlaneTriangle} →
     PlaneAt (without k (spatial (t .p))) (without k (spatial (t .q))) (without k (spatial (t .r))) u → SizedSpace n t → SizedTriangle n u
 sized-dropped k at s = size-at at (sized-without k (s .at-p)) (sized-without k (s .at-q)) (sized-without k (s .at-r))
-
--- From 2 on, every number of turns and every coordinate is taken as 2.
-pub placed-more : (turns : ℕ) (swap : Bool) (t : SpaceTriangle) → (turns ≡ 0 → ⊥) → (turns ≡ 1 → ⊥) → placedAs 2 swap t ≡ placedAs turns swap t
-placed-more zero swap t h k = absurd (h refl)
-placed-more (suc zero) swap t h k = absurd (k refl)
-placed-more (suc (suc n)) swap t h k = refl
-
-pub without-more : (k : ℕ) (a : Point) → (k ≡ 0 → ⊥) → (k ≡ 1 → ⊥) → without 2 a ≡ without k a
-without-more zero a h i = absurd (h refl)
-without-more (suc zero) a h i = absurd (i refl)
-without-more (suc (suc k)) a h i = refl

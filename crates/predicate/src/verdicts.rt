@@ -14,6 +14,7 @@ ghost use Rattle.predicate.specs.Answers.{served};
 ghost use Rattle.predicate.specs.Rules.{VerdictRule};
 ghost use Rattle.predicate.specs.Told.{toldVerdict};
 
+// The answer on two shapes that passed the checks.
 fn verdict(meet: bool) -> VerdictAnswer
     ensures { λ r. ⌜ toldVerdict r ≡ served meet ⌝ }
 {

@@ -4,14 +4,13 @@ use mathlib.Core.Path.{_≡_, refl, sym, _∙_, ap}
 use mathlib.Core.Bool.{Bool, true, false, cond}
 use mathlib.Core.List.{List, [], _∷_, map}
 use mathlib.Core.Logic.{_↔_}
-use Prim.Native.Nat.{ℕ, zero, suc, _<_}
+use Prim.Native.Nat.{ℕ, zero, suc, _+_, _<_}
 use native.Mathlib.Omega.{arith}
 use lib.Dec.{eqb}
 use lib.ListN.{length, length-map}
 use lib.IntN.{ℤ, pos, negsuc, negℤ, _+ℤ_, _*ℤ_, *ℤ-comm, *ℤ-zero, zero-*ℤ}
 use Rattle.algebra.proofs.Expression.{Ex, var, lit, _⊞_, _⊟_, _⊠_, neg}
-use Rattle.algebra.proofs.Order.{ThreeWay, minus, none, plus, three-way}
-use Rattle.algebra.proofs.Certificate.{Rel, _≺_, _≐_, hyp, eqn, num, _⊕_, prove≡}
+use Rattle.algebra.proofs.Certificate.{Rel, Cert, _≐_, eqn, num, _⊕_, prove≡, factor-out}
 use Rattle.shape.specs.Points.{Point, Shape, coord}
 use Rattle.shape.specs.Signs.{side}
 use Rattle.shape.specs.Sharing.{total, weigh, Share}
@@ -24,18 +23,7 @@ use Rattle.shape.proofs.Apart.{functional, weigh-functional}
 use Rattle.shape.proofs.Meeting.{CommonWeights, share-is-weights, pointWith, coord-pointWith}
 use Rattle.shape.proofs.VerdictLaws.{says-yes, says-no}
 use Rattle.shape.proofs.FlatLaws.{flat-in-space, zero-says}
-use Rattle.shape.proofs.Planes.{across, level-of, plane-is-side}
-
--- A factor that is not zero can be taken out.
-factor-out : (c x y : ℤ) → (c ≡ pos 0 → ⊥) → c *ℤ x ≡ c *ℤ y → x ≡ y
-factor-out c x y not-zero = by-sign (three-way c)
-  where
-    by-sign : ThreeWay c → c *ℤ x ≡ c *ℤ y → x ≡ y
-    by-sign (minus h) =
-        prove≡ (c ∷ x ∷ y ∷ []) ((var 0 ≺ O) ∷ (var 0 ⊠ var 1 ≐ var 0 ⊠ var 2) ∷ []) (var 1) (var 2) (hyp 0) (eqn 1 (lit (negsuc 0))) tt tt tt refl h
-    by-sign (none e) = absurd (not-zero e)
-    by-sign (plus h) =
-        prove≡ (c ∷ x ∷ y ∷ []) ((O ≺ var 0) ∷ (var 0 ⊠ var 1 ≐ var 0 ⊠ var 2) ∷ []) (var 1) (var 2) (hyp 0) (eqn 1 (lit (pos 1))) tt tt tt refl h
+use Rattle.shape.proofs.Planes.{across, offset, plane-is-side}
 
 -- ---- two points of the plane n·x + s m = 0 that agree in two coordinates agree in the third, if n is not zero there
 module _ (n0 n1 n2 m s x y z x′ y′ z′ : ℤ)
@@ -44,26 +32,28 @@ module _ (n0 n1 n2 m s x y z x′ y′ z′ : ℤ)
   abbrev numbers : List ℤ
   numbers = n0 ∷ n1 ∷ n2 ∷ m ∷ s ∷ x ∷ y ∷ z ∷ x′ ∷ y′ ∷ z′ ∷ []
 
-  abbrev planeE : ℕ → ℕ → ℕ → Ex
-  planeE a b c = var 0 ⊠ var a ⊞ (var 1 ⊠ var b ⊞ (var 2 ⊠ var c ⊞ O)) ⊞ var 4 ⊠ var 3
+  -- the plane at the coordinates from var a on
+  abbrev planeE : ℕ → Ex
+  planeE a = var 0 ⊠ var a ⊞ (var 1 ⊠ var (1 + a) ⊞ (var 2 ⊠ var (2 + a) ⊞ O)) ⊞ var 4 ⊠ var 3
 
-  abbrev given : Rel → Rel → List Rel
-  given e f = (planeE 5 6 7 ≐ O) ∷ (planeE 8 9 10 ≐ O) ∷ e ∷ f ∷ []
+  -- what is given where the coordinates i and j agree, and the certificate for the product at the third
+  abbrev given : ℕ → ℕ → List Rel
+  given i j = (planeE 5 ≐ O) ∷ (planeE 8 ≐ O) ∷ (var (5 + i) ≐ var (8 + i)) ∷ (var (5 + j) ≐ var (8 + j)) ∷ []
+
+  abbrev left : ℕ → ℕ → Cert
+  left i j = eqn 0 (lit (pos 1)) ⊕ eqn 1 (lit (negsuc 0)) ⊕ eqn 2 (neg (var i)) ⊕ eqn 3 (neg (var j))
 
   third-x : (n0 ≡ pos 0 → ⊥) → y ≡ y′ → z ≡ z′ → x ≡ x′
   third-x not-zero e f =
-      factor-out n0 x x′ not-zero (prove≡ numbers (given (var 6 ≐ var 9) (var 7 ≐ var 10)) (var 0 ⊠ var 5) (var 0 ⊠ var 8) (num 1)
-      (eqn 0 (lit (pos 1)) ⊕ eqn 1 (lit (negsuc 0)) ⊕ eqn 2 (neg (var 1)) ⊕ eqn 3 (neg (var 2))) tt tt tt refl here there e f)
+      factor-out n0 x x′ not-zero (prove≡ numbers (given 1 2) (var 0 ⊠ var 5) (var 0 ⊠ var 8) (num 1) (left 1 2) tt tt tt refl here there e f)
 
   third-y : (n1 ≡ pos 0 → ⊥) → z ≡ z′ → x ≡ x′ → y ≡ y′
   third-y not-zero e f =
-      factor-out n1 y y′ not-zero (prove≡ numbers (given (var 7 ≐ var 10) (var 5 ≐ var 8)) (var 1 ⊠ var 6) (var 1 ⊠ var 9) (num 1)
-      (eqn 0 (lit (pos 1)) ⊕ eqn 1 (lit (negsuc 0)) ⊕ eqn 2 (neg (var 2)) ⊕ eqn 3 (neg (var 0))) tt tt tt refl here there e f)
+      factor-out n1 y y′ not-zero (prove≡ numbers (given 2 0) (var 1 ⊠ var 6) (var 1 ⊠ var 9) (num 1) (left 2 0) tt tt tt refl here there e f)
 
   third-z : (n2 ≡ pos 0 → ⊥) → x ≡ x′ → y ≡ y′ → z ≡ z′
   third-z not-zero e f =
-      factor-out n2 z z′ not-zero (prove≡ numbers (given (var 5 ≐ var 8) (var 6 ≐ var 9)) (var 2 ⊠ var 7) (var 2 ⊠ var 10) (num 1)
-      (eqn 0 (lit (pos 1)) ⊕ eqn 1 (lit (negsuc 0)) ⊕ eqn 2 (neg (var 0)) ⊕ eqn 3 (neg (var 1))) tt tt tt refl here there e f)
+      factor-out n2 z z′ not-zero (prove≡ numbers (given 0 1) (var 2 ⊠ var 7) (var 2 ⊠ var 10) (num 1) (left 0 1) tt tt tt refl here there e f)
 
 -- ---- shapes in the plane of a, b, c
 abbrev pub OnPlane : Point → Point → Point → Point → Type 0
@@ -94,7 +84,7 @@ module _ (k : ℕ) (P Q : Shape) where
       each (suc (suc i)) l = absurd (omega arith)
 
   module _ (a b c : Point) (on-P : Every (OnPlane a b c) P) (on-Q : Every (OnPlane a b c) Q) where
-    zero-on : (R : Shape) → Every (OnPlane a b c) R → Every (λ x. functional (across c a c b) (level-of c a c b) x ≡ pos 0) R
+    zero-on : (R : Shape) → Every (OnPlane a b c) R → Every (λ x. functional (across c a c b) (offset c a c b) x ≡ pos 0) R
     zero-on [] g = tt
     zero-on (x ∷ R) g = (plane-is-side a b c x ∙ ap negℤ (g .0), zero-on R (g .1))
 
@@ -115,7 +105,7 @@ module _ (k : ℕ) (P Q : Shape) where
       n i = normalAt i a b c
 
       abbrev m : ℤ
-      m = level-of c a c b
+      m = offset c a c b
 
       -- the weighted sums lie on the plane too
       here : n 0 *ℤ X 0 +ℤ (n 1 *ℤ X 1 +ℤ (n 2 *ℤ X 2 +ℤ pos 0)) +ℤ pos (total (h .us)) *ℤ m ≡ pos 0
@@ -170,14 +160,14 @@ module _ (k : ℕ) (P Q : Shape) where
 -- ---- the coordinate to drop
 module _ (a b c : Point) where
   -- The axis is 3 where the triangle is flat, and only there; and elsewhere the normal is not zero at it.
-  abbrev Right : ℕ → Type 0
-  Right k = Says (eqb k 3) (Flat 3 (a ∷ b ∷ c ∷ [])) × ((Flat 3 (a ∷ b ∷ c ∷ []) → ⊥) → normalAt k a b c ≡ pos 0 → ⊥)
+  abbrev Serves : ℕ → Type 0
+  Serves k = Says (eqb k 3) (Flat 3 (a ∷ b ∷ c ∷ [])) × ((Flat 3 (a ∷ b ∷ c ∷ []) → ⊥) → normalAt k a b c ≡ pos 0 → ⊥)
 
-  axis-right : Right (axis a b c)
-  axis-right = by-tests (isZero (normalAt 2 a b c)) (isZero (normalAt 1 a b c)) (isZero (normalAt 0 a b c)) (zero-says _) (zero-says _) (zero-says _)
+  axis-serves : Serves (axis a b c)
+  axis-serves = by-tests (isZero (normalAt 2 a b c)) (isZero (normalAt 1 a b c)) (isZero (normalAt 0 a b c)) (zero-says _) (zero-says _) (zero-says _)
     where
       by-tests : (z y x : Bool) → Says z (normalAt 2 a b c ≡ pos 0) → Says y (normalAt 1 a b c ≡ pos 0) → Says x (normalAt 0 a b c ≡ pos 0) →
-          Right (cond z (cond y (cond x 3 0) 1) 2)
+          Serves (cond z (cond y (cond x 3 0) 1) 2)
       by-tests false y x at-z at-y at-x = (says-no (λ flat. at-z .no refl (flat-in-space a b c .0 flat .2)), λ not-flat. at-z .no refl)
       by-tests true false x at-z at-y at-x = (says-no (λ flat. at-y .no refl (flat-in-space a b c .0 flat .1)), λ not-flat. at-y .no refl)
       by-tests true true false at-z at-y at-x = (says-no (λ flat. at-x .no refl (flat-in-space a b c .0 flat .0)), λ not-flat. at-x .no refl)
@@ -186,35 +176,38 @@ module _ (a b c : Point) where
           (says-yes flat, λ not-flat. absurd (not-flat flat))
 
   pub axis-says : Says (eqb (axis a b c) 3) (Flat 3 (a ∷ b ∷ c ∷ []))
-  axis-says = axis-right .0
+  axis-says = axis-serves .0
 
   pub axis-stands : (Flat 3 (a ∷ b ∷ c ∷ []) → ⊥) → normalAt (axis a b c) a b c ≡ pos 0 → ⊥
-  axis-stands = axis-right .1
+  axis-stands = axis-serves .1
 
 -- ---- a triangle p q r in the plane of a, b, c: its normal is along that of a, b, c
 module _ (p q r a b c : Point) (on-p : OnPlane a b c p) (on-q : OnPlane a b c q) (on-r : OnPlane a b c r) where
   abbrev ρ : List ℤ
   ρ = values (p ∷ q ∷ r ∷ a ∷ b ∷ c ∷ [])
 
-  -- The normal of the points i, j, l at the coordinate whose others are u and v.
-  abbrev normalE : ℕ → ℕ → ℕ → ℕ → ℕ → Ex
-  normalE u v i j l = minorE u v (rowE (point i) (point l)) (rowE (point j) (point l))
+  -- The normals of p, q, r and of a, b, c at the coordinate whose others are u and v.
+  abbrev own : ℕ → ℕ → Ex
+  own u v = minorE u v (rowE (point 0) (point 2)) (rowE (point 1) (point 2))
+
+  abbrev plane's : ℕ → ℕ → Ex
+  plane's u v = minorE u v (rowE (point 3) (point 5)) (rowE (point 4) (point 5))
 
   abbrev on-plane : List Rel
   on-plane = (sideE 3 4 5 0 ≐ O) ∷ (sideE 3 4 5 1 ≐ O) ∷ (sideE 3 4 5 2 ≐ O) ∷ []
 
-  -- (p - r) × (q - r) × n is (q - r) times n·(p - r) less (p - r) times n·(q - r), and both are zero
+  -- At the coordinate d, (p - r) × (q - r) × n is q - r times n·(p - r) less p - r times n·(q - r), and both are zero.
+  abbrev none-at : ℕ → Cert
+  none-at d = eqn 0 (point 2 d ⊟ point 1 d) ⊕ eqn 1 (point 0 d ⊟ point 2 d) ⊕ eqn 2 (point 1 d ⊟ point 0 d)
+
   parallel-xy : normalAt 0 p q r *ℤ normalAt 1 a b c ≡ normalAt 1 p q r *ℤ normalAt 0 a b c
-  parallel-xy = prove≡ ρ on-plane (normalE 1 2 0 1 2 ⊠ normalE 2 0 3 4 5) (normalE 2 0 0 1 2 ⊠ normalE 1 2 3 4 5) (num 1)
-      (eqn 0 (point 2 2 ⊟ point 1 2) ⊕ eqn 1 (point 0 2 ⊟ point 2 2) ⊕ eqn 2 (point 1 2 ⊟ point 0 2)) tt tt tt refl on-p on-q on-r
+  parallel-xy = prove≡ ρ on-plane (own 1 2 ⊠ plane's 2 0) (own 2 0 ⊠ plane's 1 2) (num 1) (none-at 2) tt tt tt refl on-p on-q on-r
 
   parallel-yz : normalAt 1 p q r *ℤ normalAt 2 a b c ≡ normalAt 2 p q r *ℤ normalAt 1 a b c
-  parallel-yz = prove≡ ρ on-plane (normalE 2 0 0 1 2 ⊠ normalE 0 1 3 4 5) (normalE 0 1 0 1 2 ⊠ normalE 2 0 3 4 5) (num 1)
-      (eqn 0 (point 2 0 ⊟ point 1 0) ⊕ eqn 1 (point 0 0 ⊟ point 2 0) ⊕ eqn 2 (point 1 0 ⊟ point 0 0)) tt tt tt refl on-p on-q on-r
+  parallel-yz = prove≡ ρ on-plane (own 2 0 ⊠ plane's 0 1) (own 0 1 ⊠ plane's 2 0) (num 1) (none-at 0) tt tt tt refl on-p on-q on-r
 
   parallel-zx : normalAt 2 p q r *ℤ normalAt 0 a b c ≡ normalAt 0 p q r *ℤ normalAt 2 a b c
-  parallel-zx = prove≡ ρ on-plane (normalE 0 1 0 1 2 ⊠ normalE 1 2 3 4 5) (normalE 1 2 0 1 2 ⊠ normalE 0 1 3 4 5) (num 1)
-      (eqn 0 (point 2 1 ⊟ point 1 1) ⊕ eqn 1 (point 0 1 ⊟ point 2 1) ⊕ eqn 2 (point 1 1 ⊟ point 0 1)) tt tt tt refl on-p on-q on-r
+  parallel-zx = prove≡ ρ on-plane (own 0 1 ⊠ plane's 1 2) (own 1 2 ⊠ plane's 0 1) (num 1) (none-at 1) tt tt tt refl on-p on-q on-r
 
   -- So where it is zero at k and that of a, b, c is not, it is zero.
   zero-with : (k i : ℕ) → (normalAt k a b c ≡ pos 0 → ⊥) → normalAt k p q r ≡ pos 0 →

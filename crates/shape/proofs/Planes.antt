@@ -22,8 +22,8 @@ abbrev pub across : Point → Point → Point → Point → List ℤ
 across a b c d =
     minor 1 2 (row b a) (row d c) ∷ minor 2 0 (row b a) (row d c) ∷ minor 0 1 (row b a) (row d c) ∷ []
 
-abbrev pub level-of : Point → Point → Point → Point → ℤ
-level-of a b c d = negℤ (dotFrom 0 (across a b c d) a)
+abbrev pub offset : Point → Point → Point → Point → ℤ
+offset a b c d = negℤ (dotFrom 0 (across a b c d) a)
 
 -- The same of symbols, and its value at the point x.
 abbrev acrossE : ℕ → ℕ → ℕ → ℕ → PointE
@@ -39,7 +39,7 @@ acrossAt a b c d x = dotE (acrossE a b c d) (point x) ⊞ neg (dotE (acrossE a b
 
 -- ---- the plane of a triangle
 -- The functional of the plane of a, b, c is the opposite of the side value.
-pub plane-is-side : (a b c x : Point) → functional (across c a c b) (level-of c a c b) x ≡ negℤ (side a b c x)
+pub plane-is-side : (a b c x : Point) → functional (across c a c b) (offset c a c b) x ≡ negℤ (side a b c x)
 plane-is-side a b c x = ring (values (a ∷ b ∷ c ∷ x ∷ [])) (acrossAt 2 0 2 1 3) (neg (sideE 0 1 2 3)) tt refl
 
 -- The corners of a triangle are on its plane.
@@ -53,7 +53,7 @@ corners-on a b c =
 -- What lies strictly below the plane of a triangle has no point in common with it, and what lies strictly above it neither.
 pub below-plane : (a b c : Point) (Q : Shape) → Every (λ x. side a b c x <ℤ pos 0) Q → Share 3 (a ∷ b ∷ c ∷ []) Q → ⊥
 below-plane a b c Q h =
-    apart (across c a c b) (level-of c a c b) (omega arith) (
+    apart (across c a c b) (offset c a c b) (omega arith) (
       prove≤ (ρ a) [] (acrossAt 2 0 2 1 0) O (num 1) (num 0) tt tt refl,
       (
         prove≤ (ρ a) [] (acrossAt 2 0 2 1 1) O (num 1) (num 0) tt tt refl,
@@ -64,7 +64,7 @@ below-plane a b c Q h =
     ρ : Point → List ℤ
     ρ x = values (a ∷ b ∷ c ∷ x ∷ [])
 
-    each : (R : Shape) → Every (λ x. side a b c x <ℤ pos 0) R → Every (λ x. pos 0 <ℤ functional (across c a c b) (level-of c a c b) x) R
+    each : (R : Shape) → Every (λ x. side a b c x <ℤ pos 0) R → Every (λ x. pos 0 <ℤ functional (across c a c b) (offset c a c b) x) R
     each [] g = tt
     each (x ∷ R) g = (prove< (ρ x) ((sideE 0 1 2 3 ≺ O) ∷ []) O (acrossAt 2 0 2 1 3) (num 1) (hyp 0) tt tt refl (g .0), each R (g .1))
 

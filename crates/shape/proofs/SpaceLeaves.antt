@@ -22,7 +22,7 @@ use Rattle.shape.proofs.Apart.{apart}
 use Rattle.shape.proofs.Witnesses.{segment-through-triangle}
 use Rattle.shape.proofs.VerdictLaws.{says-yes, says-no}
 use Rattle.shape.proofs.Standings.{Alone, says-by-above}
-use Rattle.shape.proofs.Planes.{across, level-of, acrossAt}
+use Rattle.shape.proofs.Planes.{across, offset, acrossAt}
 
 -- The opposite of a number that is zero or less, and back.
 turned-up : {z : ℤ} → z ≤ℤ pos 0 → pos 0 ≤ℤ negℤ z
@@ -70,7 +70,7 @@ module _ (p1 q1 r1 p2 q2 r2 : Point)
   -- [p1,q1,p2,q2] above zero: the functional along p1 → q1 and p2 → q2 keeps them apart.
   apart-first : pos 0 <ℤ side p1 q1 p2 q2 → Meet → ⊥
   apart-first h =
-      apart (across p1 q1 p2 q2) (level-of p1 q1 p2 q2) (omega arith) (
+      apart (across p1 q1 p2 q2) (offset p1 q1 p2 q2) (omega arith) (
         prove≤ six [] (acrossAt 0 1 3 4 0) O (num 1) (num 0) tt tt refl,
         (
           prove≤ six [] (acrossAt 0 1 3 4 1) O (num 1) (num 0) tt tt refl,
@@ -91,7 +91,7 @@ module _ (p1 q1 r1 p2 q2 r2 : Point)
   -- [p1,r1,r2,p2] above zero: the functional along p1 → r1 and r2 → p2 does.
   apart-second : pos 0 <ℤ side p1 r1 r2 p2 → Meet → ⊥
   apart-second h =
-      apart (across p1 r1 r2 p2) (level-of p1 r1 r2 p2) (omega arith) (
+      apart (across p1 r1 r2 p2) (offset p1 r1 r2 p2) (omega arith) (
         prove≤ six [] (acrossAt 0 2 5 3 0) O (num 1) (num 0) tt tt refl,
         (
           prove≤ six ((sideE 0 1 2 5 ≺ sideE 0 1 2 3) ∷ []) (acrossAt 0 2 5 3 1) O (num 1) (hyp 0) tt tt refl (lone-2 .over-third),
@@ -151,7 +151,7 @@ module _ (p1 q1 r1 p2 q2 r2 : Point)
 -- It passes the edge a b of the triangle on the outside: the functional along p → q and a → b keeps them apart.
 past-edge : (p q a b c : Point) → side a b c q <ℤ side a b c p → pos 0 <ℤ side p q a b → Share 3 (p ∷ q ∷ []) (a ∷ b ∷ c ∷ []) → ⊥
 past-edge p q a b c falls h =
-    apart (across p q a b) (level-of p q a b) (omega arith)
+    apart (across p q a b) (offset p q a b) (omega arith)
     (prove≤ five [] (acrossAt 0 1 2 3 0) O (num 1) (num 0) tt tt refl, (prove≤ five [] (acrossAt 0 1 2 3 1) O (num 1) (num 0) tt tt refl, tt)) (
       prove< five ((O ≺ sideE 0 1 2 3) ∷ []) O (acrossAt 0 1 2 3 2) (num 1) (hyp 0) tt tt refl h,
       (

@@ -3,7 +3,7 @@
 use mathlib.Core.Path.{_≡_, refl, subst₃}
 use mathlib.Core.Bool.{Bool, true, false}
 use mathlib.Core.List.{[], _∷_}
-use mathlib.Core.Logic.{inl, inr, _↔_}
+use mathlib.Core.Logic.{inl, inr}
 use Prim.Native.Nat.{ℕ, zero, suc}
 use lib.IntN.{ℤ, pos, negℤ}
 use Rattle.algebra.proofs.Expression.{neg}
@@ -19,7 +19,7 @@ use Rattle.shape.proofs.Trading.{share-trade, share-among, among-itself
 use Rattle.shape.proofs.VerdictLaws.{says-no, says-same}
 use Rattle.shape.proofs.FlatLaws.{flat-in-plane}
 use Rattle.shape.proofs.PlaneTest.{triangle-test, segment-test}
-use Rattle.shape.proofs.Standings.{Alone, AloneBy, alone-swapped, Fits, fits, says-by-ends}
+use Rattle.shape.proofs.Standings.{Alone, alone-swapped, By, After, Fits, fits, says-by-ends}
 use Rattle.shape.proofs.Planes.{corners-on, below-plane, above-plane}
 use Rattle.shape.proofs.Dropping.{OnPlane, share-dropped, axis-stands, flat-dropped}
 use Rattle.shape.proofs.SpaceLeaves.{last-signs, past-no-edge}
@@ -70,72 +70,65 @@ module _ (F : ℤ → ℤ → ℤ → Type 0) (p q r a b c : Point) where
   plane-swapped : F (negℤ (side a b c p)) (negℤ (side a b c q)) (negℤ (side a b c r)) → F (side a c b p) (side a c b q) (side a c b r)
   plane-swapped = subst₃ F (side-swapped a b c p) (side-swapped a b c q) (side-swapped a b c r)
 
-alone-by-swapped : (swap : Bool) (x y z : ℤ) → AloneBy swap x y z → AloneBy swap x z y
+-- ---- the new order
+-- The triangle x y z in a new order against the triangle a b c: K is what is to be known of a, b, c against the plane of x y z, M of
+-- x, y, z against that of a b c. A verdict g that is right in the new order is right for the corners as they stood.
+module _ (a b c : Point) (K M : ℤ → ℤ → ℤ → Type 0) (M-swapped : (x y z : ℤ) → M x y z → M x z y) (g : Point → Point → Point → Bool)
+    (right : (x y z : Point) → K (side x y z a) (side x y z b) (side x y z c) → M (side a b c x) (side a b c y) (side a b c z) →
+    Says (g x y z) (Share 3 (a ∷ b ∷ c ∷ []) (x ∷ y ∷ z ∷ []))) where
+  after-swap : (swap : Bool) (x y z : Point) →
+      By swap K (side x y z a) (side x y z b) (side x y z c) → M (side a b c x) (side a b c y) (side a b c z) →
+      Says (swapped swap g x y z) (Share 3 (a ∷ b ∷ c ∷ []) (x ∷ y ∷ z ∷ []))
+  after-swap false x y z k m = right x y z k m
+  after-swap true x y z k m =
+      says-same (share-mirrored (a ∷ b ∷ c ∷ []) x y z)
+      (right x z y (plane-swapped K a b c x y z k) (M-swapped (side a b c x) (side a b c y) (side a b c z) m))
+
+  in-new-order : (turns : ℕ) (swap : Bool) (x y z : Point) →
+      By swap K (side x y z a) (side x y z b) (side x y z c) → After turns M (side a b c x) (side a b c y) (side a b c z) →
+      Says (placed turns swap g x y z) (Share 3 (a ∷ b ∷ c ∷ []) (x ∷ y ∷ z ∷ []))
+  in-new-order zero swap x y z k m = after-swap swap x y z k m
+  in-new-order (suc zero) swap x y z k m =
+      says-same (share-turned (a ∷ b ∷ c ∷ []) x y z) (after-swap swap y z x (plane-turned (By swap K) a b c x y z k) m)
+  in-new-order (suc (suc n)) swap x y z k m =
+      says-same (share-turned-twice (a ∷ b ∷ c ∷ []) x y z) (after-swap swap z x y (plane-turned-twice (By swap K) a b c x y z k) m)
+
+alone-by-swapped : (swap : Bool) (x y z : ℤ) → By swap Alone x y z → By swap Alone x z y
 alone-by-swapped false x y z h = alone-swapped h
 alone-by-swapped true x y z h = alone-swapped h
 
-signs-turned : (turns : ℕ) (x y z : ℤ) → Fits (alone turns true) x y z → Fits (alone turns false) (negℤ x) (negℤ y) (negℤ z)
-signs-turned zero x y z h = h
-signs-turned (suc zero) x y z h = h
-signs-turned (suc (suc turns)) x y z h = h
+-- Turning the signs and turning the corners can be done in either order.
+signs-first : (turns : ℕ) (swap : Bool) (x y z : ℤ) → After turns (By swap Alone) x y z → By swap (After turns Alone) x y z
+signs-first zero false x y z h = h
+signs-first zero true x y z h = h
+signs-first (suc zero) false x y z h = h
+signs-first (suc zero) true x y z h = h
+signs-first (suc (suc turns)) false x y z h = h
+signs-first (suc (suc turns)) true x y z h = h
 
--- ---- the new order, from the last step to the first: the verdict by it is right for the corners as they stood
--- The second triangle's last two corners.
-after-swap-2 : (swap2 : Bool) (p1 q1 r1 p2 q2 r2 : Point) →
-    AloneBy swap2 (side p2 q2 r2 p1) (side p2 q2 r2 q1) (side p2 q2 r2 r1) → Alone (side p1 q1 r1 p2) (side p1 q1 r1 q2) (side p1 q1 r1 r2) →
-    Says (swapped swap2 (lastSigns p1 q1 r1) p2 q2 r2) (Share 3 (p1 ∷ q1 ∷ r1 ∷ []) (p2 ∷ q2 ∷ r2 ∷ []))
-after-swap-2 false p1 q1 r1 p2 q2 r2 lone-1 lone-2 = last-signs p1 q1 r1 p2 q2 r2 lone-1 lone-2
-after-swap-2 true p1 q1 r1 p2 q2 r2 lone-1 lone-2 =
-    says-same (share-mirrored (p1 ∷ q1 ∷ r1 ∷ []) p2 q2 r2)
-    (last-signs p1 q1 r1 p2 r2 q2 (plane-swapped Alone p1 q1 r1 p2 q2 r2 lone-1) (alone-swapped lone-2))
-
--- Its turns.
-after-turns-2 : (turns2 : ℕ) (swap2 : Bool) (p1 q1 r1 p2 q2 r2 : Point) →
-    AloneBy swap2 (side p2 q2 r2 p1) (side p2 q2 r2 q1) (side p2 q2 r2 r1) →
-    Fits (alone turns2 false) (side p1 q1 r1 p2) (side p1 q1 r1 q2) (side p1 q1 r1 r2) →
-    Says (placed turns2 swap2 (lastSigns p1 q1 r1) p2 q2 r2) (Share 3 (p1 ∷ q1 ∷ r1 ∷ []) (p2 ∷ q2 ∷ r2 ∷ []))
-after-turns-2 zero swap2 p1 q1 r1 p2 q2 r2 lone-1 fit-2 = after-swap-2 swap2 p1 q1 r1 p2 q2 r2 lone-1 fit-2
-after-turns-2 (suc zero) swap2 p1 q1 r1 p2 q2 r2 lone-1 fit-2 =
-    says-same (share-turned (p1 ∷ q1 ∷ r1 ∷ []) p2 q2 r2)
-    (after-swap-2 swap2 p1 q1 r1 q2 r2 p2 (plane-turned (AloneBy swap2) p1 q1 r1 p2 q2 r2 lone-1) fit-2)
-after-turns-2 (suc (suc n)) swap2 p1 q1 r1 p2 q2 r2 lone-1 fit-2 =
-    says-same (share-turned-twice (p1 ∷ q1 ∷ r1 ∷ []) p2 q2 r2)
-    (after-swap-2 swap2 p1 q1 r1 r2 p2 q2 (plane-turned-twice (AloneBy swap2) p1 q1 r1 p2 q2 r2 lone-1) fit-2)
-
-module _ (turns2 : ℕ) (swap2 : Bool) (p2 q2 r2 : Point) where
-  abbrev lastOf : Point → Point → Point → Bool
-  lastOf a b c = placed turns2 swap2 (lastSigns a b c) p2 q2 r2
-
-  -- The corners of the first triangle in another order.
-  first-reordered : {v : Bool} {a b c x y z : Point} → Share 3 (p2 ∷ q2 ∷ r2 ∷ []) (x ∷ y ∷ z ∷ []) ↔ Share 3 (p2 ∷ q2 ∷ r2 ∷ []) (a ∷ b ∷ c ∷ []) →
-      Says v (Share 3 (x ∷ y ∷ z ∷ []) (p2 ∷ q2 ∷ r2 ∷ [])) → Says v (Share 3 (a ∷ b ∷ c ∷ []) (p2 ∷ q2 ∷ r2 ∷ []))
-  first-reordered same = says-same (λ h. share-trade (same .0 (share-trade h)), λ h. share-trade (same .1 (share-trade h)))
-
-  -- The first triangle's last two corners.
-  after-swap-1 : (swap1 : Bool) (p1 q1 r1 : Point) →
-      AloneBy swap2 (side p2 q2 r2 p1) (side p2 q2 r2 q1) (side p2 q2 r2 r1) →
-      Fits (alone turns2 swap1) (side p1 q1 r1 p2) (side p1 q1 r1 q2) (side p1 q1 r1 r2) →
-      Says (swapped swap1 lastOf p1 q1 r1) (Share 3 (p1 ∷ q1 ∷ r1 ∷ []) (p2 ∷ q2 ∷ r2 ∷ []))
-  after-swap-1 false p1 q1 r1 lone-1 fit-2 = after-turns-2 turns2 swap2 p1 q1 r1 p2 q2 r2 lone-1 fit-2
-  after-swap-1 true p1 q1 r1 lone-1 fit-2 =
-      first-reordered (share-mirrored (p2 ∷ q2 ∷ r2 ∷ []) p1 q1 r1)
-      (after-turns-2 turns2 swap2 p1 r1 q1 p2 q2 r2 (alone-by-swapped swap2 (side p2 q2 r2 p1) (side p2 q2 r2 q1) (side p2 q2 r2 r1) lone-1)
-      (plane-swapped (Fits (alone turns2 false)) p2 q2 r2 p1 q1 r1 (signs-turned turns2 (side p1 q1 r1 p2) (side p1 q1 r1 q2) (side p1 q1 r1 r2) fit-2)))
-
-  -- Its turns.
-  after-turns-1 : (turns1 : ℕ) (swap1 : Bool) (p1 q1 r1 : Point) →
-      Fits (alone turns1 swap2) (side p2 q2 r2 p1) (side p2 q2 r2 q1) (side p2 q2 r2 r1) →
-      Fits (alone turns2 swap1) (side p1 q1 r1 p2) (side p1 q1 r1 q2) (side p1 q1 r1 r2) →
-      Says (placed turns1 swap1 lastOf p1 q1 r1) (Share 3 (p1 ∷ q1 ∷ r1 ∷ []) (p2 ∷ q2 ∷ r2 ∷ []))
-  after-turns-1 zero swap1 p1 q1 r1 fit-1 fit-2 = after-swap-1 swap1 p1 q1 r1 fit-1 fit-2
-  after-turns-1 (suc zero) swap1 p1 q1 r1 fit-1 fit-2 =
-      first-reordered (share-turned (p2 ∷ q2 ∷ r2 ∷ []) p1 q1 r1)
-      (after-swap-1 swap1 q1 r1 p1 fit-1 (plane-turned (Fits (alone turns2 swap1)) p2 q2 r2 p1 q1 r1 fit-2))
-  after-turns-1 (suc (suc n)) swap1 p1 q1 r1 fit-1 fit-2 =
-      first-reordered (share-turned-twice (p2 ∷ q2 ∷ r2 ∷ []) p1 q1 r1)
-      (after-swap-1 swap1 r1 p1 q1 fit-1 (plane-turned-twice (Fits (alone turns2 swap1)) p2 q2 r2 p1 q1 r1 fit-2))
+-- Both triangles in their new orders: the second one inside, against the first as it is then, and the first one outside.
+crossing : (p1 q1 r1 p2 q2 r2 : Point) (turns1 turns2 : ℕ) (swap1 swap2 : Bool) →
+    Fits (alone turns1 swap2) (side p2 q2 r2 p1) (side p2 q2 r2 q1) (side p2 q2 r2 r1) →
+    Fits (alone turns2 swap1) (side p1 q1 r1 p2) (side p1 q1 r1 q2) (side p1 q1 r1 r2) →
+    Says (placed turns1 swap1 (λ a b c. placed turns2 swap2 (lastSigns a b c) p2 q2 r2) p1 q1 r1) (Share 3 (p1 ∷ q1 ∷ r1 ∷ []) (p2 ∷ q2 ∷ r2 ∷ []))
+crossing p1 q1 r1 p2 q2 r2 turns1 turns2 swap1 swap2 fit-1 fit-2 =
+    says-same (share-trade, share-trade)
+    (in-new-order p2 q2 r2 (After turns2 Alone) (By swap2 Alone) (alone-by-swapped swap2) (λ a b c. placed turns2 swap2 (lastSigns a b c) p2 q2 r2)
+    (λ a b c fit lone. says-same (share-trade, share-trade) (second-in-order a b c lone fit))
+    turns1 swap1 p1 q1 r1 (signs-first turns2 swap1 (side p1 q1 r1 p2) (side p1 q1 r1 q2) (side p1 q1 r1 r2) fit-2) fit-1)
+  where
+    second-in-order : (a b c : Point) → By swap2 Alone (side p2 q2 r2 a) (side p2 q2 r2 b) (side p2 q2 r2 c) →
+        After turns2 Alone (side a b c p2) (side a b c q2) (side a b c r2) →
+        Says (placed turns2 swap2 (lastSigns a b c) p2 q2 r2) (Share 3 (a ∷ b ∷ c ∷ []) (p2 ∷ q2 ∷ r2 ∷ []))
+    second-in-order a b c lone fit =
+        in-new-order a b c Alone Alone (λ x y z h. alone-swapped h) (lastSigns a b c) (last-signs a b c) turns2 swap2 p2 q2 r2 lone fit
 
 -- ---- the tests
+-- All corners of a triangle on one side of another's plane.
+beside-apart : (a b c p q r : Point) → Fits beside (side a b c p) (side a b c q) (side a b c r) → Share 3 (a ∷ b ∷ c ∷ []) (p ∷ q ∷ r ∷ []) → ⊥
+beside-apart a b c p q r (inl h) = below-plane a b c (p ∷ q ∷ r ∷ []) (h .0, (h .1, (h .2, tt)))
+beside-apart a b c p q r (inr h) = above-plane a b c (p ∷ q ∷ r ∷ []) (h .0, (h .1, (h .2, tt)))
+
 -- Two triangles in space, neither flat.
 module _ (p1 q1 r1 p2 q2 r2 : Point) (not-flat-1 : Flat 3 (p1 ∷ q1 ∷ r1 ∷ []) → ⊥) (not-flat-2 : Flat 3 (p2 ∷ q2 ∷ r2 ∷ []) → ⊥) where
   abbrev Meet : Type 0
@@ -144,16 +137,14 @@ module _ (p1 q1 r1 p2 q2 r2 : Point) (not-flat-1 : Flat 3 (p1 ∷ q1 ∷ r1 ∷ 
   by-second : (turns1 : ℕ) (swap2 : Bool) → Fits (alone turns1 swap2) (side p2 q2 r2 p1) (side p2 q2 r2 q1) (side p2 q2 r2 r1) →
       (st : Standing) → Fits st (side p1 q1 r1 p2) (side p1 q1 r1 q2) (side p1 q1 r1 r2) →
       Says (byStanding st (inPlaneTest p2 q2 r2 p1 q1 r1) (λ turns2 swap1. placed turns1 swap1 (λ a b c. placed turns2 swap2 (lastSigns a b c) p2 q2 r2) p1 q1 r1)) Meet
-  by-second turns1 swap2 fit-1 beside (inl h) = says-no (below-plane p1 q1 r1 (p2 ∷ q2 ∷ r2 ∷ []) (h .0, (h .1, (h .2, tt))))
-  by-second turns1 swap2 fit-1 beside (inr h) = says-no (above-plane p1 q1 r1 (p2 ∷ q2 ∷ r2 ∷ []) (h .0, (h .1, (h .2, tt))))
+  by-second turns1 swap2 fit-1 beside h = says-no (beside-apart p1 q1 r1 p2 q2 r2 h)
   by-second turns1 swap2 fit-1 within h =
       says-same (share-trade, share-trade) (in-plane p2 q2 r2 p1 q1 r1 not-flat-2 not-flat-1 (h .0) (h .1) (h .2))
-  by-second turns1 swap2 fit-1 (alone turns2 swap1) fit-2 = after-turns-1 turns2 swap2 p2 q2 r2 turns1 swap1 p1 q1 r1 fit-1 fit-2
+  by-second turns1 swap2 fit-1 (alone turns2 swap1) fit-2 = crossing p1 q1 r1 p2 q2 r2 turns1 turns2 swap1 swap2 fit-1 fit-2
 
   by-first : (st : Standing) → Fits st (side p2 q2 r2 p1) (side p2 q2 r2 q1) (side p2 q2 r2 r1) →
       Says (byStanding st (inPlaneTest p1 q1 r1 p2 q2 r2) (crossingTest p1 q1 r1 p2 q2 r2)) Meet
-  by-first beside (inl h) = says-no (λ s. below-plane p2 q2 r2 (p1 ∷ q1 ∷ r1 ∷ []) (h .0, (h .1, (h .2, tt))) (share-trade s))
-  by-first beside (inr h) = says-no (λ s. above-plane p2 q2 r2 (p1 ∷ q1 ∷ r1 ∷ []) (h .0, (h .1, (h .2, tt))) (share-trade s))
+  by-first beside h = says-no (λ s. beside-apart p2 q2 r2 p1 q1 r1 h (share-trade s))
   by-first within h = in-plane p1 q1 r1 p2 q2 r2 not-flat-1 not-flat-2 (h .0) (h .1) (h .2)
   by-first (alone turns1 swap2) fit-1 =
       by-second turns1 swap2 fit-1 (standing (pattern p2 q2 r2 p1 q1 r1)) (fits (side p1 q1 r1 p2) (side p1 q1 r1 q2) (side p1 q1 r1 r2))

@@ -29,18 +29,21 @@ pub alone-swapped : {x y z : ℤ} → Alone x y z → Alone x z y
 alone-swapped h =
     record { first = h .first; second = h .third; third = h .second; over-second = h .over-third; over-third = h .over-second }
 
--- The same once the signs are turned, if they have to be.
-abbrev pub AloneBy : Bool → ℤ → ℤ → ℤ → Type 0
-AloneBy false x y z = Alone x y z
-AloneBy true x y z = Alone (negℤ x) (negℤ y) (negℤ z)
+-- What is known of three side values once their signs are turned, if they have to be; and once the corners are turned so many times.
+abbrev pub By : Bool → (ℤ → ℤ → ℤ → Type 0) → ℤ → ℤ → ℤ → Type 0
+By false K x y z = K x y z
+By true K x y z = K (negℤ x) (negℤ y) (negℤ z)
+
+abbrev pub After : ℕ → (ℤ → ℤ → ℤ → Type 0) → ℤ → ℤ → ℤ → Type 0
+After zero K x y z = K x y z
+After (suc zero) K x y z = K y z x
+After (suc (suc turns)) K x y z = K z x y
 
 -- What a standing says of the side values of the corners.
 abbrev pub Fits : Standing → ℤ → ℤ → ℤ → Type 0
 Fits beside x y z = ((x <ℤ pos 0) × (y <ℤ pos 0) × (z <ℤ pos 0)) ⊎ ((pos 0 <ℤ x) × (pos 0 <ℤ y) × (pos 0 <ℤ z))
 Fits within x y z = (x ≡ pos 0) × (y ≡ pos 0) × (z ≡ pos 0)
-Fits (alone zero swap) x y z = AloneBy swap x y z
-Fits (alone (suc zero) swap) x y z = AloneBy swap y z x
-Fits (alone (suc (suc turns)) swap) x y z = AloneBy swap z x y
+Fits (alone turns swap) x y z = After turns (By swap Alone) x y z
 
 -- ---- three signs
 below : {n : ℕ} → negsuc n <ℤ pos 0

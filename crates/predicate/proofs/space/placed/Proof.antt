@@ -1,8 +1,8 @@
 -- `predicate::space::placed` meets its contract: each of the six orders is that of the definition. Assumes nothing.
-use mathlib.Core.Path.{sym, ap, _∙_}
+use mathlib.Core.Path.{refl, sym, ap, _∙_}
 use mathlib.Core.Bool.{Bool}
 use Rattle.predicate.specs.Spaces.{placedAs}
-use Rattle.predicate.proofs.SpaceLaws.{placed-more}
+use Rattle.predicate.proofs.Branches.{two-or-more}
 use Rattle.predicate.proofs.space.placed.Statement.{statement}
 use Rattle.predicate.proofs.space.placed.Tie as tie
 
@@ -29,12 +29,12 @@ returns-4 c =
 returns-5 : tie.Need-returns-5
 returns-5 c =
     let a = c .before .before .before .before .before .before .args in
-    sym (ap (λ (b : Bool). placedAs 2 b (a .t)) (c .if5 .taken)) ∙ placed-more (a .turns) (a .swap) (a .t) (c .before .before .if1 .left) (c .before .if3 .left)
+    sym (ap (λ (b : Bool). placedAs 2 b (a .t)) (c .if5 .taken)) ∙ two-or-more (λ n. placedAs n (a .swap) (a .t)) (λ n. refl) (a .turns) (c .before .before .if1 .left) (c .before .if3 .left)
 
 returns-6 : tie.Need-returns-6
 returns-6 c =
     let a = c .before .before .before .before .before .before .args in
-    sym (ap (λ (b : Bool). placedAs 2 b (a .t)) (c .if5 .left)) ∙ placed-more (a .turns) (a .swap) (a .t) (c .before .before .if1 .left) (c .before .if3 .left)
+    sym (ap (λ (b : Bool). placedAs 2 b (a .t)) (c .if5 .left)) ∙ two-or-more (λ n. placedAs n (a .swap) (a .t)) (λ n. refl) (a .turns) (c .before .before .if1 .left) (c .before .if3 .left)
 
 pub placed-spec : {M : Type 1} → statement M
 placed-spec = tie.close (tie.spec returns returns-2 returns-3 returns-4 returns-5 returns-6)

@@ -1,11 +1,11 @@
 -- `predicate::space::without_coordinate` meets its contract: the two coordinates that are kept are those of the definition. Assumes nothing.
-use mathlib.Core.Path.{sym, ap, _∙_}
+use mathlib.Core.Path.{refl, sym, ap, _∙_}
 use mathlib.Core.List.{[], _∷_}
 use Prim.Native.Nat.{ℕ}
 use Rattle.shape.specs.SpaceTest.{without}
 use Rattle.predicate.specs.Vectors.{spatial}
+use Rattle.predicate.proofs.Branches.{two-or-more}
 use Rattle.predicate.proofs.Readings.{coordinate}
-use Rattle.predicate.proofs.SpaceLaws.{without-more}
 use Rattle.predicate.proofs.space.without_coordinate.Statement.{statement}
 use Rattle.predicate.proofs.space.without_coordinate.Tie as tie
 
@@ -25,7 +25,7 @@ returns-3 : tie.Need-returns-3
 returns-3 c =
     let p = c .before .before .before in
     (λ i. coordinate tt (p .pre) 0 .is i ∷ coordinate tt (p .pre) 1 .is i ∷ [])
-    ∙ without-more (p .args .k) (spatial (p .args .a)) (c .before .before .if1 .left) (c .before .if2 .left)
+    ∙ two-or-more (λ n. without n (spatial (p .args .a))) (λ n. refl) (p .args .k) (c .before .before .if1 .left) (c .before .if2 .left)
 
 pub without-coordinate-spec : {M : Type 1} → statement M
 without-coordinate-spec = tie.close (tie.spec returns returns-2 returns-3)
