@@ -13,6 +13,7 @@ use Rattle.shape.specs.Points.{Point, Shape}
 use Rattle.shape.specs.Signs.{row, minor, side}
 use Rattle.shape.specs.Sharing.{Share}
 use Rattle.shape.proofs.Symbols.{values, O, PointE, point, rowE, minorE, sideE}
+use Rattle.shape.proofs.SignLaws.{equal-points}
 use Rattle.shape.proofs.Weights.{Every}
 use Rattle.shape.proofs.Trading.{first, second, third, among-itself, share-among}
 use Rattle.shape.proofs.Apart.{dotFrom, functional, apart}
@@ -44,11 +45,7 @@ plane-is-side a b c x = ring (values (a ∷ b ∷ c ∷ x ∷ [])) (acrossAt 2 0
 
 -- The corners of a triangle are on its plane.
 pub corners-on : (a b c : Point) → Every (λ x. side a b c x ≡ pos 0) (a ∷ b ∷ c ∷ [])
-corners-on a b c =
-    (ring ρ (sideE 0 1 2 0) O tt refl, (ring ρ (sideE 0 1 2 1) O tt refl, (ring ρ (sideE 0 1 2 2) O tt refl, tt)))
-  where
-    ρ : List ℤ
-    ρ = values (a ∷ b ∷ c ∷ [])
+corners-on a b c = (equal-points [] a (b ∷ c ∷ []) [], (equal-points (a ∷ []) b (c ∷ []) [], (equal-points (a ∷ b ∷ []) c [] [], tt)))
 
 -- What lies strictly below the plane of a triangle has no point in common with it, and what lies strictly above it neither.
 pub below-plane : (a b c : Point) (Q : Shape) → Every (λ x. side a b c x <ℤ pos 0) Q → Share 3 (a ∷ b ∷ c ∷ []) Q → ⊥

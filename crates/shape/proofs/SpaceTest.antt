@@ -1,20 +1,18 @@
 -- The tests in space (specs/SpaceTest.antt) say yes exactly when the two shapes have a point in common: two triangles that are not
 -- flat, and a segment and a triangle that is not flat. Assumes nothing.
-use mathlib.Core.Path.{_≡_, refl, subst₃}
+use mathlib.Core.Path.{_≡_, refl, sym, _∙_, subst₃}
 use mathlib.Core.Bool.{Bool, true, false}
 use mathlib.Core.List.{[], _∷_}
 use mathlib.Core.Logic.{inl, inr}
 use Prim.Native.Nat.{ℕ, zero, suc}
-use lib.IntN.{ℤ, pos, negℤ}
-use Rattle.algebra.proofs.Expression.{neg}
-use Rattle.algebra.proofs.Solver.{ring}
+use lib.IntN.{ℤ, pos, negℤ, negℤ-negℤ}
 use Rattle.shape.specs.Points.{Point}
 use Rattle.shape.specs.Signs.{side}
 use Rattle.shape.specs.Sharing.{Share}
 use Rattle.shape.specs.Flat.{Flat}
 use Rattle.shape.specs.Verdicts.{Says}
 use Rattle.shape.specs.SpaceTest.{Standing, beside, within, alone, standing, pattern, byStanding, swapped, placed, without, normalAt, axis, inPlaneTest, segmentInPlaneTest, lastSigns, crossingTest, spaceTest, segmentSpaceTest}
-use Rattle.shape.proofs.Symbols.{values, sideE}
+use Rattle.shape.proofs.SignLaws.{neighbours-trade, carry-past}
 use Rattle.shape.proofs.Trading.{share-trade, share-among, among-itself, share-turned, share-turned-twice, share-mirrored}
 use Rattle.shape.proofs.VerdictLaws.{says-no, says-same}
 use Rattle.shape.proofs.FlatLaws.{flat-in-plane}
@@ -51,21 +49,15 @@ segment-in-plane p q a b c not-flat on-p on-q =
 -- ---- the corners of a plane in another order: turning them leaves every side value, swapping two turns its sign
 module _ (a b c x : Point) where
   side-turned : side a b c x ≡ side b c a x
-  side-turned = ring (values (a ∷ b ∷ c ∷ x ∷ [])) (sideE 0 1 2 3) (sideE 1 2 0 3) tt refl
-
-  side-turned-twice : side a b c x ≡ side c a b x
-  side-turned-twice = ring (values (a ∷ b ∷ c ∷ x ∷ [])) (sideE 0 1 2 3) (sideE 2 0 1 3) tt refl
+  side-turned = carry-past [] a (b ∷ c ∷ []) (x ∷ []) ∙ negℤ-negℤ (side b c a x)
 
   side-swapped : negℤ (side a b c x) ≡ side a c b x
-  side-swapped = ring (values (a ∷ b ∷ c ∷ x ∷ [])) (neg (sideE 0 1 2 3)) (sideE 0 2 1 3) tt refl
+  side-swapped = sym (neighbours-trade (a ∷ []) c b (x ∷ []))
 
 -- The corners p, q, r against the plane of a, b, c, with F what is known of their side values.
 module _ (F : ℤ → ℤ → ℤ → Type 0) (p q r a b c : Point) where
   plane-turned : F (side a b c p) (side a b c q) (side a b c r) → F (side b c a p) (side b c a q) (side b c a r)
   plane-turned = subst₃ F (side-turned a b c p) (side-turned a b c q) (side-turned a b c r)
-
-  plane-turned-twice : F (side a b c p) (side a b c q) (side a b c r) → F (side c a b p) (side c a b q) (side c a b r)
-  plane-turned-twice = subst₃ F (side-turned-twice a b c p) (side-turned-twice a b c q) (side-turned-twice a b c r)
 
   plane-swapped : F (negℤ (side a b c p)) (negℤ (side a b c q)) (negℤ (side a b c r)) → F (side a c b p) (side a c b q) (side a c b r)
   plane-swapped = subst₃ F (side-swapped a b c p) (side-swapped a b c q) (side-swapped a b c r)
@@ -91,7 +83,7 @@ module _ (a b c : Point) (K M : ℤ → ℤ → ℤ → Type 0) (M-swapped : (x 
   in-new-order (suc zero) swap x y z k m =
       says-same (share-turned (a ∷ b ∷ c ∷ []) x y z) (after-swap swap y z x (plane-turned (By swap K) a b c x y z k) m)
   in-new-order (suc (suc n)) swap x y z k m =
-      says-same (share-turned-twice (a ∷ b ∷ c ∷ []) x y z) (after-swap swap z x y (plane-turned-twice (By swap K) a b c x y z k) m)
+      says-same (share-turned-twice (a ∷ b ∷ c ∷ []) x y z) (after-swap swap z x y (plane-turned (By swap K) a b c y z x (plane-turned (By swap K) a b c x y z k)) m)
 
 alone-by-swapped : (swap : Bool) (x y z : ℤ) → By swap Alone x y z → By swap Alone x z y
 alone-by-swapped false x y z h = alone-swapped h
