@@ -7,7 +7,7 @@ use Prim.Native.Nat.{ℕ, _<_, _≤_}
 use borrow.Author.Tests.{lt-ltb, le-ltb}
 use lib.ListN.{length, drop, set}
 use lib.Seq.{sets-eq}
-use Rattle.predicate.specs.Answers.{Answer, withServed}
+use Rattle.checks.specs.Answers.{Answer, withServed}
 use Rattle.door.specs.Numbers.{fourNumbers}
 use Rattle.door.specs.Buffer.{tooShort, Written}
 

@@ -9,7 +9,7 @@ use Prim.Native.Nat.{ℕ, _<_, _≤_}
 use native.Mathlib.Omega.{arith}
 use borrow.Author.Tests.{ltb-true, ltb-false}
 use lib.ListN.{length, take, drop, take-append-drop}
-use Rattle.predicate.specs.Answers.{Answer}
+use Rattle.checks.specs.Answers.{Answer}
 use Rattle.door.specs.Numbers.{fourNumbers}
 use Rattle.door.specs.Buffer.{tooShort, Written}
 use Rattle.door.proofs.BufferLaws.{by-test}

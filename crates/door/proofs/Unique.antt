@@ -5,7 +5,7 @@ use mathlib.Core.Bool.{Bool}
 use mathlib.Core.List.{List}
 use Prim.Native.Nat.{ℕ}
 use lib.IntN.{ℤ}
-use Rattle.predicate.specs.Answers.{Answer, withServed}
+use Rattle.checks.specs.Answers.{Answer, withServed}
 use Rattle.predicate.specs.Rules.{signRule}
 use Rattle.predicate.proofs.Unique.{rule-fixed}
 use Rattle.shape.specs.Signs.{digit}

@@ -7,7 +7,7 @@ use Prim.Native.Nat.{ℕ}
 use lib.Dec.{ltb}
 use lib.IntN.{ℤ}
 use lib.ListN.{length, drop}
-use Rattle.predicate.specs.Answers.{Answer, withServed}
+use Rattle.checks.specs.Answers.{Answer, withServed}
 use Rattle.predicate.specs.Rules.{VerdictRule}
 use Rattle.door.specs.Numbers.{verdictCode, fourNumbers}
 

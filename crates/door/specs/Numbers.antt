@@ -4,7 +4,7 @@
 use mathlib.Core.Bool.{Bool, true, false}
 use mathlib.Core.List.{List, [], _∷_}
 use Prim.Native.Nat.{ℕ}
-use Rattle.predicate.specs.Answers.{Answer, served, refused, numberOf, sideOf, placeOf}
+use Rattle.checks.specs.Answers.{Answer, served, refused, numberOf, sideOf, placeOf}
 use Rattle.door.specs.declared.numbers.Numbers.{Numbers}
 
 -- Apart, no, as 0; meeting, yes, as 1.

@@ -1,8 +1,8 @@
 // The four numbers of an answer, and the buffer that they are written into. Nothing here knows what the calls serve.
 use predicate::Refusal;
 ghost use mathlib.Core.Path.{_≡_};
-ghost use Rattle.predicate.specs.Answers.{served};
-ghost use Rattle.predicate.specs.Told.{toldRefusal};
+ghost use Rattle.checks.specs.Answers.{served};
+ghost use Rattle.checks.specs.Told.{toldRefusal};
 ghost use Rattle.door.specs.Numbers.{fourNumbers, listed};
 ghost use Rattle.door.specs.Buffer.{Written};
 

@@ -5,7 +5,7 @@ use crate::numbers::refused_numbers;
 use crate::numbers::served_numbers;
 use predicate::VerdictAnswer;
 ghost use mathlib.Core.Path.{_≡_};
-ghost use Rattle.predicate.specs.Answers.{withServed};
+ghost use Rattle.checks.specs.Answers.{withServed};
 ghost use Rattle.predicate.specs.Told.{toldVerdict};
 ghost use Rattle.door.specs.Numbers.{verdictCode, fourNumbers, listed};
 ghost use Rattle.door.specs.Buffer.{VerdictWritten};

@@ -9,10 +9,11 @@ use lib.IntN.{ℤ}
 use lib.ListN.{length}
 use Rattle.shape.specs.Points.{Shape, pointsAt}
 use Rattle.shape.specs.Flat.{Flat}
-use Rattle.predicate.specs.Answers.{Answer, served, refused, Check, fine, _then_, numberOf, sideOf, placeOf}
-use Rattle.predicate.specs.Rules.{rightLength, allOnGrid, notFlat, pairChecks, VerdictRule}
-use Rattle.predicate.proofs.GridLaws.{Lowest}
-use Rattle.predicate.proofs.CheckLaws.{LengthCase, right, wrong, length-case, GridCase, all, not-all, grid-case, OnGrid, FlatCase, flat, not-flat, flat-case, long-fine, not-long-refused, on-fine, off-refused, not-flat-fine, flat-refused}
+use Rattle.checks.specs.Answers.{Answer, served, refused, Check, fine, _then_, numberOf, sideOf, placeOf}
+use Rattle.checks.specs.Rules.{rightLength, allOnGrid, notFlat, pairChecks}
+use Rattle.predicate.specs.Rules.{VerdictRule}
+use Rattle.checks.proofs.GridLaws.{Lowest}
+use Rattle.checks.proofs.CheckLaws.{from-start, LengthCase, right, wrong, length-case, GridCase, all, not-all, grid-case, OnGrid, FlatCase, flat, not-flat, flat-case, long-fine, not-long-refused, on-fine, off-refused, not-flat-fine, flat-refused}
 
 -- Number, side and place are these.
 abbrev pub Are : (number side place : ℕ) → (number′ side′ place′ : ℕ) → Type 0
@@ -46,13 +47,13 @@ module _ (n k m : ℕ) (first second : List ℤ) where
   second-long = rightLength 1 (m * n) second
 
   abbrev first-on : Check
-  first-on = allOnGrid 0 first
+  first-on = allOnGrid 0 0 first
 
   abbrev first-not-flat : Check
   first-not-flat = notFlat n 0 0 P
 
   abbrev second-on : Check
-  second-on = allOnGrid 1 second
+  second-on = allOnGrid 1 0 second
 
   abbrev second-not-flat : Check
   second-not-flat = notFlat n 1 0 Q
@@ -80,35 +81,35 @@ module _ (n k m : ℕ) (first second : List ℤ) where
   from-case number side place (first-off l l′ low a) =
       let d = long-fine 0 (k * n) first l in
       let e = long-fine 1 (m * n) second l′ in
-      let f = off-refused 0 place first low in
+      let f = off-refused 0 0 place first low ∙ ap (refused 1 0) (sym (from-start place)) in
       finds (refused 1 0 place) 1 0 place (λ i. together (d i) (e i) (f i) first-not-flat second-on second-not-flat) (refl, refl, refl) number side place a
   from-case number side place (first-flat l l′ on h a) =
       let d = long-fine 0 (k * n) first l in
       let e = long-fine 1 (m * n) second l′ in
-      let f = on-fine 0 first on in
+      let f = on-fine 0 0 first on in
       let g = flat-refused n 0 0 P h in
       finds (refused 2 0 0) 2 0 0 (λ i. together (d i) (e i) (f i) (g i) second-on second-not-flat) (refl, refl, refl) number side place a
   from-case number side place (second-off l l′ on h low a) =
       let d = long-fine 0 (k * n) first l in
       let e = long-fine 1 (m * n) second l′ in
-      let f = on-fine 0 first on in
+      let f = on-fine 0 0 first on in
       let g = not-flat-fine n 0 0 P h in
-      let f′ = off-refused 1 place second low in
+      let f′ = off-refused 1 0 place second low ∙ ap (refused 1 1) (sym (from-start place)) in
       finds (refused 1 1 place) 1 1 place (λ i. together (d i) (e i) (f i) (g i) (f′ i) second-not-flat) (refl, refl, refl) number side place a
   from-case number side place (second-flat l l′ on h on′ h′ a) =
       let d = long-fine 0 (k * n) first l in
       let e = long-fine 1 (m * n) second l′ in
-      let f = on-fine 0 first on in
+      let f = on-fine 0 0 first on in
       let g = not-flat-fine n 0 0 P h in
-      let f′ = on-fine 1 second on′ in
+      let f′ = on-fine 1 0 second on′ in
       let g′ = flat-refused n 1 0 Q h′ in
       finds (refused 2 1 0) 2 1 0 (λ i. together (d i) (e i) (f i) (g i) (f′ i) (g′ i)) (refl, refl, refl) number side place a
   from-case number side place (none l l′ on h on′ h′ a) =
       let d = long-fine 0 (k * n) first l in
       let e = long-fine 1 (m * n) second l′ in
-      let f = on-fine 0 first on in
+      let f = on-fine 0 0 first on in
       let g = not-flat-fine n 0 0 P h in
-      let f′ = on-fine 1 second on′ in
+      let f′ = on-fine 1 0 second on′ in
       let g′ = not-flat-fine n 1 0 Q h′ in
       finds fine 0 0 0 (λ i. together (d i) (e i) (f i) (g i) (f′ i) (g′ i)) (refl, refl, refl) number side place a
 
@@ -116,7 +117,7 @@ module _ (n k m : ℕ) (first second : List ℤ) where
   some-case : PairCase (numberOf checks) (sideOf checks) (placeOf checks)
   some-case = by-lengths (length-case 0 (k * n) first) (length-case 1 (m * n) second)
     where
-      by-second : length first ≡ k * n → length second ≡ m * n → OnGrid first → (Flat n P → ⊥) → GridCase 1 second → FlatCase n 1 0 Q →
+      by-second : length first ≡ k * n → length second ≡ m * n → OnGrid first → (Flat n P → ⊥) → GridCase 1 0 second → FlatCase n 1 0 Q →
           PairCase (numberOf checks) (sideOf checks) (placeOf checks)
       by-second l l′ on h (not-all low e) g =
           let found = from-case 1 1 _ (second-off l l′ on h low (refl, refl, refl)) in
@@ -124,17 +125,17 @@ module _ (n k m : ℕ) (first second : List ℤ) where
       by-second l l′ on h (all on′ e) (flat h′ g) = second-flat l l′ on h on′ h′ (from-case 2 1 0 (second-flat l l′ on h on′ h′ (refl, refl, refl)))
       by-second l l′ on h (all on′ e) (not-flat h′ g) = none l l′ on h on′ h′ (from-case 0 0 0 (none l l′ on h on′ h′ (refl, refl, refl)))
 
-      by-first : length first ≡ k * n → length second ≡ m * n → GridCase 0 first → FlatCase n 0 0 P → PairCase (numberOf checks) (sideOf checks) (placeOf checks)
+      by-first : length first ≡ k * n → length second ≡ m * n → GridCase 0 0 first → FlatCase n 0 0 P → PairCase (numberOf checks) (sideOf checks) (placeOf checks)
       by-first l l′ (not-all low e) g =
           let found = from-case 1 0 _ (first-off l l′ low (refl, refl, refl)) in
           first-off l l′ (subst (Lowest first) (sym (found .2)) low) (found .0, found .1, refl)
       by-first l l′ (all on e) (flat h g) = first-flat l l′ on h (from-case 2 0 0 (first-flat l l′ on h (refl, refl, refl)))
-      by-first l l′ (all on e) (not-flat h g) = by-second l l′ on h (grid-case 1 second) (flat-case n 1 0 Q)
+      by-first l l′ (all on e) (not-flat h g) = by-second l l′ on h (grid-case 1 0 second) (flat-case n 1 0 Q)
 
       by-lengths : LengthCase 0 (k * n) first → LengthCase 1 (m * n) second → PairCase (numberOf checks) (sideOf checks) (placeOf checks)
       by-lengths (wrong h e) g = first-length h (from-case 3 0 (length first) (first-length h (refl, refl, refl)))
       by-lengths (right l e) (wrong h g) = second-length l h (from-case 3 1 (length second) (second-length l h (refl, refl, refl)))
-      by-lengths (right l e) (right l′ g) = by-first l l′ (grid-case 0 first) (flat-case n 0 0 P)
+      by-lengths (right l e) (right l′ g) = by-first l l′ (grid-case 0 0 first) (flat-case n 0 0 P)
 
   -- ---- the answer
   -- It gives what the checks find.

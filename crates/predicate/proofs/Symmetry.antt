@@ -9,9 +9,10 @@ use Rattle.shape.specs.Sharing.{Share}
 use Rattle.shape.specs.Verdicts.{Says}
 use Rattle.shape.proofs.Trading.{Among, share-trade, share-reorder}
 use Rattle.shape.proofs.VerdictLaws.{says-same, says-fixed}
-use Rattle.predicate.specs.Answers.{served}
-use Rattle.predicate.specs.Rules.{pairChecks, VerdictRule}
-use Rattle.predicate.proofs.AnswerLaws.{then-served}
+use Rattle.checks.specs.Answers.{served}
+use Rattle.checks.specs.Rules.{pairChecks}
+use Rattle.predicate.specs.Rules.{VerdictRule}
+use Rattle.checks.proofs.AnswerLaws.{then-served}
 
 -- What is served is right.
 pub served-right : {n k m : ℕ} {first second : List ℤ} {v : Bool} → VerdictRule n k m first second (served v) →

@@ -7,12 +7,14 @@ use Prim.Native.Nat.{ℕ, zero, suc}
 use lib.IntN.{ℤ, pos, negsuc}
 use Rattle.shape.specs.Verdicts.{Says}
 use Rattle.shape.proofs.VerdictLaws.{says-fixed}
-use Rattle.predicate.specs.Answers.{Answer, served, refused, Check, fine, _then_}
-use Rattle.predicate.specs.Rules.{valueRule, signRule, pairChecks, VerdictRule}
-use Rattle.predicate.specs.Told.{signNumber, toldSign, toldValue, toldVerdict}
-use Rattle.predicate.specs.declared.answer.Refusal.{Refusal}
-use Rattle.predicate.specs.declared.answer.Sign.{Sign}
-use Rattle.predicate.specs.declared.answer.Sign.the-variants.{Negative, Zero, Positive}
+use Rattle.checks.specs.Answers.{Answer, served, refused, Check, fine, _then_}
+use Rattle.predicate.specs.Rules.{valueRule, signRule, VerdictRule}
+use Rattle.checks.specs.Rules.{pairChecks}
+use Rattle.kernel.specs.Vectors.{signNumber}
+use Rattle.predicate.specs.Told.{toldSign, toldValue, toldVerdict}
+use Rattle.checks.specs.declared.answer.Refusal.{Refusal}
+use Rattle.kernel.specs.declared.determinant.Sign.{Sign}
+use Rattle.kernel.specs.declared.determinant.Sign.the-variants.{Negative, Zero, Positive}
 use Rattle.predicate.specs.declared.answer.SignAnswer.{SignAnswer}
 use Rattle.predicate.specs.declared.answer.SignAnswer.the-variants.{Signed, Refused as SignRefused}
 use Rattle.predicate.specs.declared.answer.ValueAnswer.{ValueAnswer}

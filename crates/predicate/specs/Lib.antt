@@ -1,10 +1,3 @@
--- What the contracts of the predicates cite. Read Answers, Grid, Rules and Told; Vectors, Planes, Spaces and Kinds are
--- the vocabulary of the leaves.
-pub mod Answers
-pub mod Grid
+-- What the contracts of the predicates cite, beside the refusals of crate `checks`.
 pub mod Rules
 pub mod Told
-pub mod Vectors
-pub mod Planes
-pub mod Spaces
-pub mod Kinds

@@ -1,25 +1,27 @@
 // The public sign calls, and the determinants behind them. Three flat points are six numbers, four space points twelve.
 use crate::answer::SignAnswer;
 use crate::answer::ValueAnswer;
-use crate::determinant::side_of;
-use crate::determinant::sign_of;
-use crate::determinant::turn_of;
-use crate::grid::Checked;
-use crate::grid::grid_checked;
-use crate::grid::length_checked;
+use checks::Checked;
+use checks::grid_checked;
+use checks::length_checked;
+use kernel::side_of;
+use kernel::sign_of;
+use kernel::turn_of;
 ghost use mathlib.Core.Path.{_≡_};
 ghost use Rattle.shape.specs.Signs.{sign};
-ghost use Rattle.predicate.specs.Answers.{_then_, withServed};
-ghost use Rattle.predicate.specs.Rules.{rightLength, allOnGrid, valueRule, signRule};
-ghost use Rattle.predicate.specs.Told.{toldCheck, toldValue, toldSign};
+ghost use Rattle.checks.specs.Answers.{_then_, withServed};
+ghost use Rattle.checks.specs.Rules.{rightLength, allOnGrid};
+ghost use Rattle.predicate.specs.Rules.{valueRule, signRule};
+ghost use Rattle.checks.specs.Told.{toldCheck};
+ghost use Rattle.predicate.specs.Told.{toldValue, toldSign};
 
 // The refusals of a sign call: 3, then 1.
 fn points_checked(want: usize, numbers: &[i32]) -> Checked
-    ensures { λ r. ⌜ toldCheck r ≡ rightLength 0 want (now (numbers .entry)) then allOnGrid 0 (now (numbers .entry)) ⌝ }
+    ensures { λ r. ⌜ toldCheck r ≡ rightLength 0 want (now (numbers .entry)) then allOnGrid 0 0 (now (numbers .entry)) ⌝ }
 {
     match length_checked(0, want, numbers) {
         Checked::Refused(why) => Checked::Refused(why),
-        Checked::Fine => grid_checked(0, numbers),
+        Checked::Fine => grid_checked(0, 0, numbers),
     }
 }
 

@@ -1,16 +1,13 @@
 // The public verdict calls: whether two shapes have a point in common.
 use crate::answer::VerdictAnswer;
-use crate::checks::Kind;
-use crate::checks::pair_checked;
-use crate::determinant::space_point;
-use crate::grid::Checked;
-use crate::plane::plane_triangle;
-use crate::plane::planes_meet;
-use crate::space::segment_meets_space;
-use crate::space::space_triangle;
-use crate::space::spaces_meet;
+use checks::Checked;
+use checks::pair_checked;
+use kernel::Kind;
+use kernel::flat_triangles_meet;
+use kernel::segment_meets_triangle;
+use kernel::triangles_meet;
 ghost use mathlib.Core.Path.{_≡_};
-ghost use Rattle.predicate.specs.Answers.{served};
+ghost use Rattle.checks.specs.Answers.{served};
 ghost use Rattle.predicate.specs.Rules.{VerdictRule};
 ghost use Rattle.predicate.specs.Told.{toldVerdict};
 
@@ -30,7 +27,7 @@ pub fn flat_verdict(first: &[i32], second: &[i32]) -> VerdictAnswer
 {
     match pair_checked(Kind::PlaneTriangle, first, Kind::PlaneTriangle, second) {
         Checked::Refused(why) => VerdictAnswer::Refused(why),
-        Checked::Fine => verdict(planes_meet(plane_triangle(first), plane_triangle(second))),
+        Checked::Fine => verdict(flat_triangles_meet(first, second)),
     }
 }
 
@@ -40,11 +37,7 @@ pub fn segment_verdict(first: &[i32], second: &[i32]) -> VerdictAnswer
 {
     match pair_checked(Kind::SpaceSegment, first, Kind::SpaceTriangle, second) {
         Checked::Refused(why) => VerdictAnswer::Refused(why),
-        Checked::Fine => verdict(segment_meets_space(
-            space_point(first, 0),
-            space_point(first, 3),
-            space_triangle(second),
-        )),
+        Checked::Fine => verdict(segment_meets_triangle(first, second)),
     }
 }
 
@@ -54,6 +47,6 @@ pub fn pair_verdict(first: &[i32], second: &[i32]) -> VerdictAnswer
 {
     match pair_checked(Kind::SpaceTriangle, first, Kind::SpaceTriangle, second) {
         Checked::Refused(why) => VerdictAnswer::Refused(why),
-        Checked::Fine => verdict(spaces_meet(space_triangle(first), space_triangle(second))),
+        Checked::Fine => verdict(triangles_meet(first, second)),
     }
 }

@@ -3,7 +3,7 @@
 use borrow.Author.Needs.{needs}
 use mathlib.Core.Path.{sym, ap, _∙_}
 use Prim.Native.Nat.{ℕ}
-use Rattle.predicate.specs.Answers.{served, withServed}
+use Rattle.checks.specs.Answers.{served, withServed}
 use Rattle.predicate.specs.Told.{toldSign}
 use Rattle.predicate.specs.declared.answer.SignAnswer.{SignAnswer}
 use Rattle.shape.specs.Signs.{digit}

@@ -2,7 +2,7 @@
 -- its code. Assumes nothing.
 use borrow.Author.Needs.{needs}
 use mathlib.Core.Path.{_≡_, sym, ap, _∙_}
-use Rattle.predicate.specs.Answers.{withServed}
+use Rattle.checks.specs.Answers.{withServed}
 use Rattle.predicate.specs.Told.{toldVerdict}
 use Rattle.predicate.specs.declared.answer.VerdictAnswer.{VerdictAnswer}
 use Rattle.door.specs.Numbers.{verdictCode, fourNumbers}

@@ -1,7 +1,7 @@
 -- `predicate::signs::points_checked` meets its contract: where the length is refused nothing else counts, and where it is fine the grid decides.
 -- Assumes nothing.
 use borrow.Author.Needs.{needs}
-use Rattle.predicate.proofs.AnswerLaws.{stopped, passed-on}
+use Rattle.checks.proofs.AnswerLaws.{stopped, passed-on}
 use Rattle.predicate.proofs.signs.points_checked.Statement.{statement}
 use Rattle.predicate.proofs.signs.points_checked.Tie as tie
 

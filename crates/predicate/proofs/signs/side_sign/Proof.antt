@@ -3,7 +3,7 @@
 use borrow.Author.Needs.{needs}
 use mathlib.Core.Path.{ap, _∙_}
 use Rattle.shape.specs.Signs.{sign}
-use Rattle.predicate.specs.Answers.{withServed}
+use Rattle.checks.specs.Answers.{withServed}
 use Rattle.predicate.proofs.signs.side_sign.Statement.{statement}
 use Rattle.predicate.proofs.signs.side_sign.Tie as tie
 

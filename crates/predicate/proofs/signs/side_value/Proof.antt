@@ -4,7 +4,7 @@ use borrow.Author.Needs.{needs}
 use mathlib.Core.Path.{ap, _∙_}
 use mir.Syntax.{w64}
 use Rattle.algebra.proofs.Machine.{returned}
-use Rattle.predicate.specs.Answers.{served}
+use Rattle.checks.specs.Answers.{served}
 use Rattle.predicate.proofs.ValueLaws.{checks-refuse, checks-serve, checks-ready}
 use Rattle.predicate.proofs.signs.side_value.Statement.{statement}
 use Rattle.predicate.proofs.signs.side_value.Tie as tie

@@ -5,7 +5,7 @@ use mir.Syntax.{w64}
 use mir.Facts.{toZ-ofZ}
 use mathlib.Core.Path.{sym, ap, _∙_}
 use Rattle.shape.specs.Signs.{sign}
-use Rattle.predicate.specs.Answers.{served, withServed}
+use Rattle.checks.specs.Answers.{served, withServed}
 use Rattle.predicate.specs.Told.{toldValue}
 use Rattle.predicate.specs.declared.answer.ValueAnswer.{ValueAnswer}
 use Rattle.predicate.proofs.signs.signed.Statement.{statement}

@@ -1,6 +1,6 @@
 -- `predicate::verdicts::verdict` meets its contract: meeting is yes, apart is no. Assumes nothing.
 use mathlib.Core.Path.{sym, ap}
-use Rattle.predicate.specs.Answers.{served}
+use Rattle.checks.specs.Answers.{served}
 use Rattle.predicate.proofs.verdicts.verdict.Statement.{statement}
 use Rattle.predicate.proofs.verdicts.verdict.Tie as tie
 

@@ -1,0 +1,9 @@
+-- What the proofs of several functions share, here and above:
+--   AnswerLaws    what answers tell, and checks before them
+--   GridLaws      the lowest position off the grid
+--   CheckLaws     what each check finds, by its cases
+--   Passing       what is known of shapes that the checks passed
+pub mod AnswerLaws
+pub mod GridLaws
+pub mod CheckLaws
+pub mod Passing

@@ -1,0 +1,88 @@
+// The grid, and the checks that come before anything is computed.
+use crate::answer::Refusal;
+ghost use mathlib.Core.Path.{_≡_};
+ghost use mathlib.Core.Bool.{not};
+ghost use Prim.Native.Nat.{_+_, _^_, _<_};
+ghost use lib.ListN.{length};
+ghost use Rattle.checks.specs.Grid.{onGrid, lowestOff, allOn};
+ghost use Rattle.checks.specs.Rules.{rightLength, allOnGrid};
+ghost use Rattle.checks.specs.Told.{toldCheck};
+
+// Every coordinate lies from -LIMIT to LIMIT, ends included. specs/Grid.antt names the same number.
+const LIMIT: i32 = 524_288;
+
+// What a check finds.
+pub enum Checked {
+    Fine,
+    Refused(Refusal),
+}
+
+// Whether a number is off the grid.
+pub fn off_grid(z: i32) -> bool
+    ensures { λ r. ⌜ r ≡ not (onGrid z) ⌝ }
+{
+    if z < -LIMIT {
+        return true;
+    }
+    LIMIT < z
+}
+
+// Whether every number is on the grid. No number ends the loop before its time: most lists are on the grid, and for them this is
+// faster than seeking a place.
+fn all_on(numbers: &[i32]) -> bool
+    ensures { λ r. ⌜ r ≡ allOn (now (numbers .entry)) ⌝ }
+{
+    let mut on = true;
+    let mut i: usize = 0;
+    while i < numbers.len() {
+        if off_grid(numbers[i]) {
+            on = false;
+        }
+        i += 1;
+    }
+    on
+}
+
+// The position of the lowest number off the grid, or the length where there is none.
+pub fn lowest_off(numbers: &[i32]) -> usize
+    ensures { λ r. ⌜ r ≡ lowestOff (now (numbers .entry)) ⌝ }
+{
+    let mut i: usize = 0;
+    while i < numbers.len() {
+        if off_grid(numbers[i]) {
+            return i;
+        }
+        i += 1;
+    }
+    i
+}
+
+// Refusal 3: a list of the wrong length.
+pub fn length_checked(side: u32, want: usize, numbers: &[i32]) -> Checked
+    ensures { λ r. ⌜ toldCheck r ≡ rightLength side want (now (numbers .entry)) ⌝ }
+{
+    if numbers.len() == want {
+        Checked::Fine
+    } else {
+        Checked::Refused(Refusal {
+            number: 3,
+            side: side,
+            place: numbers.len(),
+        })
+    }
+}
+
+// Refusal 1: a coordinate off the grid, among the numbers that stand in their list from a position on.
+pub fn grid_checked(side: u32, from: usize, numbers: &[i32]) -> Checked
+    requires { ⌜ from + length (now numbers) < 2 ^ 64 ⌝ }
+    ensures { λ r. ⌜ toldCheck r ≡ allOnGrid side from (now (numbers .entry)) ⌝ }
+{
+    if all_on(numbers) {
+        return Checked::Fine;
+    }
+    Checked::Refused(Refusal {
+        number: 1,
+        side: side,
+        place: from + lowest_off(numbers),
+    })
+}

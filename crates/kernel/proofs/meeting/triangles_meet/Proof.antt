@@ -1,0 +1,32 @@
+-- `kernel::meeting::triangles_meet` meets its contract: the test is right on shapes that are not flat. Assumes nothing.
+use mathlib.Core.Path.{sym, subst, _∙_}
+use mathlib.Core.Bool.{Bool}
+use Rattle.shape.specs.SpaceTest.{spaceTest}
+use Rattle.shape.proofs.SpaceTest.{space-test}
+use Rattle.kernel.specs.Meeting.{Judges}
+use Rattle.kernel.proofs.SpaceLaws.{sized-triangle}
+use Rattle.kernel.proofs.meeting.triangles_meet.Statement.{statement}
+use Rattle.kernel.proofs.meeting.triangles_meet.Tie as tie
+
+space-triangle-requires : tie.Need-space-triangle-requires
+space-triangle-requires c κs = c .pre .0 .ready
+
+space-triangle-requires-2 : tie.Need-space-triangle-requires-2
+space-triangle-requires-2 c κs = c .before .pre .1 .ready
+
+spaces-meet-requires : tie.Need-spaces-meet-requires
+spaces-meet-requires c κs =
+    let p = c .before .before in
+    (sized-triangle (p .pre .0 .ready) (c .before .space-triangle .ensures), sized-triangle (p .pre .1 .ready) (c .space-triangle2 .ensures))
+
+returns : tie.Need-returns
+returns c =
+    let p = c .before .before .before in
+    let t = c .before .before .space-triangle .ensures in
+    let u = c .before .space-triangle2 .ensures in
+    subst (λ (v : Bool). Judges 3 3 3 (p .args .first .now) (p .args .second .now) v)
+    (sym (c .spaces-meet .ensures ∙ (λ i. spaceTest (t .at-p i) (t .at-q i) (t .at-r i) (u .at-p i) (u .at-q i) (u .at-r i))))
+    (space-test _ _ _ _ _ _ (p .pre .0 .not-flat) (p .pre .1 .not-flat))
+
+pub triangles-meet-spec : {M : Type 1} → statement M
+triangles-meet-spec = tie.close (tie.spec space-triangle-requires space-triangle-requires-2 spaces-meet-requires returns)

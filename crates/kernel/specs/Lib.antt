@@ -1,0 +1,8 @@
+-- What the contracts of the exact tests cite. Read Grid, Kinds and Meeting, which the crates above go by; Vectors, Planes and Spaces
+-- are the vocabulary of the leaves.
+pub mod Grid
+pub mod Kinds
+pub mod Meeting
+pub mod Vectors
+pub mod Planes
+pub mod Spaces
