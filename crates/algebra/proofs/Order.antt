@@ -250,3 +250,10 @@ pub ≤ℤ-<ℤ-trans : {a b c : ℤ} → a ≤ℤ b → b <ℤ c → a <ℤ c
     go : (a <ℤ c) ⊎ (c ≤ℤ a) → a <ℤ c
     go (inl p) = p
     go (inr p) = clashℤ (<ℤ-≤ℤ-trans g p) h
+
+pub ≤ℤ-trans : {a b c : ℤ} → a ≤ℤ b → b ≤ℤ c → a ≤ℤ c
+≤ℤ-trans {a} {c} g h = go (lt-or-ge c a)
+  where
+    go : (c <ℤ a) ⊎ (a ≤ℤ c) → a ≤ℤ c
+    go (inl p) = clashℤ (<ℤ-≤ℤ-trans p g) h
+    go (inr p) = p

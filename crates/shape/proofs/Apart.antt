@@ -1,15 +1,16 @@
 -- Apart by a functional: whole numbers c1 .. ck and m such that c·a + m ≤ 0 at every corner a of one shape and > 0 at
 -- every corner of the other leave no point in common. Every "no" of the tests is an instance of `apart`. Assumes nothing.
-use mathlib.Core.Path.{_≡_, refl, _∙_, ap, ap₂, subst}
+use mathlib.Core.Path.{_≡_, refl, sym, _∙_, ap, ap₂, subst}
 use mathlib.Core.List.{List, [], _∷_}
-use Prim.Native.Nat.{ℕ, suc, _+_, _≤_}
+use Prim.Native.Nat.{ℕ, zero, suc, _+_, _≤_, _<_}
 use native.Mathlib.Omega.{arith}
 use lib.ListN.{length}
-use lib.IntN.{ℤ, pos, _+ℤ_, _*ℤ_}
+use lib.IntN.{ℤ, pos, negℤ, _+ℤ_, _-ℤ_, _*ℤ_}
 use lib.Signed.{_≤ℤ_, _<ℤ_}
-use Rattle.algebra.proofs.Expression.{var, lit, _⊠_}
-use Rattle.algebra.proofs.Order.{0<-pos, one-le}
-use Rattle.algebra.proofs.Certificate.{_≦_, _≺_, hyp, _⊕_, prove⊥}
+use Rattle.algebra.proofs.Expression.{var, lit, _⊞_, _⊟_, _⊠_}
+use Rattle.algebra.proofs.Solver.{ring}
+use Rattle.algebra.proofs.Order.{0<-pos, one-le, sub-pos}
+use Rattle.algebra.proofs.Certificate.{_≦_, _≺_, hyp, num, _⊕_, prove≤, prove⊥}
 use Rattle.shape.specs.Points.{Point, Shape, coord}
 use Rattle.shape.specs.Sharing.{weigh, PointOf, Share}
 use Rattle.shape.proofs.Weights.{Every, weigh-add, weigh-scale, weigh-const, weigh-zero, weigh-le}
@@ -70,3 +71,41 @@ apart {Q} cs m l below above h =
     clash z s =
         prove⊥ (z ∷ s ∷ []) ((var 0 ≦ lit (pos 0)) ∷ (var 1 ⊠ lit (pos 1) ≦ var 0) ∷ (lit (pos 0) ≺ var 1) ∷ [])
         (hyp 0 ⊕ hyp 1 ⊕ hyp 2) tt tt refl
+
+-- ---- along one coordinate: no corner of one shape is past g at coordinate k, and every corner of the other is
+-- The numbers of the functional that gives coordinate k.
+abbrev unit : ℕ → List ℤ
+unit zero = pos 1 ∷ []
+unit (suc k) = pos 0 ∷ unit k
+
+dot-unit : (k i : ℕ) (a : Point) → dotFrom i (unit k) a ≡ coord (i + k) a
+dot-unit zero i a =
+    ring (coord i a ∷ []) (lit (pos 1) ⊠ var 0 ⊞ lit (pos 0)) (var 0) tt refl ∙ ap (λ (c : ℕ). coord c a) (omega arith)
+dot-unit (suc k) i a =
+    ring (coord i a ∷ dotFrom (suc i) (unit k) a ∷ []) (lit (pos 0) ⊠ var 0 ⊞ var 1) (var 1) tt refl
+    ∙ dot-unit k (suc i) a
+    ∙ ap (λ (c : ℕ). coord c a) (omega arith)
+
+unit-short : {n : ℕ} (k : ℕ) → k < n → length (unit k) ≤ n
+unit-short {n} k h = omega (arith, long k)
+  where
+    long : (k : ℕ) → length (unit k) ≡ suc k
+    long zero = refl
+    long (suc k) = ap suc (long k)
+
+pub apart-along : {n : ℕ} {P Q : Shape} (k : ℕ) (g : ℤ) → k < n → Every (λ a. coord k a ≤ℤ g) P → Every (λ a. g <ℤ coord k a) Q → Share n P Q → ⊥
+apart-along {P} {Q} k g h below above = apart (unit k) (negℤ g) (unit-short k h) (low P below) (high Q above)
+  where
+    at-corner : (a : Point) → functional (unit k) (negℤ g) a ≡ coord k a -ℤ g
+    at-corner a = ap (λ (z : ℤ). z -ℤ g) (dot-unit k 0 a ∙ ap (λ (c : ℕ). coord c a) (omega arith))
+
+    not-past : (x : ℤ) → x ≤ℤ g → (x -ℤ g) ≤ℤ pos 0
+    not-past x = prove≤ (x ∷ g ∷ []) ((var 0 ≦ var 1) ∷ []) (var 0 ⊟ var 1) (lit (pos 0)) (num 1) (hyp 0) tt tt refl
+
+    low : (P : Shape) → Every (λ a. coord k a ≤ℤ g) P → Every (λ a. functional (unit k) (negℤ g) a ≤ℤ pos 0) P
+    low [] e = tt
+    low (a ∷ P) e = (subst (λ (z : ℤ). z ≤ℤ pos 0) (sym (at-corner a)) (not-past (coord k a) (e .0)), low P (e .1))
+
+    high : (Q : Shape) → Every (λ a. g <ℤ coord k a) Q → Every (λ a. pos 0 <ℤ functional (unit k) (negℤ g) a) Q
+    high [] e = tt
+    high (a ∷ Q) e = (subst (λ (z : ℤ). pos 0 <ℤ z) (sym (at-corner a)) (sub-pos (e .0)), high Q (e .1))

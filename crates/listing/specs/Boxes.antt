@@ -1,0 +1,60 @@
+-- The vocabulary of src/boxes.rt: the box of a triangle, six numbers, the least x, y and z of its corners and then the greatest; and a
+-- list whose boxes are known.
+use mathlib.Core.Path.{_≡_}
+use mathlib.Core.Bool.{Bool, true, cond}
+use mathlib.Core.List.{List, [], _∷_}
+use Prim.Native.Nat.{ℕ, _+_, _*_, _≤_, _<_}
+use lib.IntN.{ℤ, pos}
+use lib.ListN.{length, getD, take, drop}
+use lib.Signed.{ltZ}
+use Rattle.kernel.specs.Grid.{Passed}
+use Rattle.listing.specs.Rules.{triangles, nine}
+
+abbrev pub smaller : ℤ → ℤ → Bool
+smaller x y = ltZ x y
+
+abbrev pub larger : ℤ → ℤ → Bool
+larger x y = ltZ y x
+
+-- The better of two numbers, the first where neither is.
+abbrev pub better : (ℤ → ℤ → Bool) → ℤ → ℤ → ℤ
+better wins x y = cond (wins y x) y x
+
+-- The best coordinate c of the three corners: the least, where the smaller number wins.
+abbrev pub bestAt : (ℤ → ℤ → Bool) → ℕ → List ℤ → ℤ
+bestAt wins c corners = better wins (better wins (getD corners c (pos 0)) (getD corners (c + 3) (pos 0))) (getD corners (c + 6) (pos 0))
+
+abbrev pub boxOf : List ℤ → List ℤ
+boxOf corners =
+    bestAt smaller 0 corners ∷ bestAt smaller 1 corners ∷ bestAt smaller 2 corners
+    ∷ bestAt larger 0 corners ∷ bestAt larger 1 corners ∷ bestAt larger 2 corners ∷ []
+
+-- The first box ends before the second begins, at coordinate c.
+abbrev pub before : ℕ → List ℤ → List ℤ → Bool
+before c first second = ltZ (getD first (c + 3) (pos 0)) (getD second c (pos 0))
+
+abbrev pub apartAlong : ℕ → List ℤ → List ℤ → Bool
+apartAlong c first second = cond (before c first second) true (before c second first)
+
+-- At some coordinate one of the boxes ends before the other begins. Boxes that touch are not apart.
+abbrev pub boxesApart : List ℤ → List ℤ → Bool
+boxesApart first second = cond (apartAlong 0 first second) true (cond (apartAlong 1 first second) true (apartAlong 2 first second))
+
+-- The box with index i.
+abbrev pub six : ℕ → List ℤ → List ℤ
+six i boxes = take 6 (drop (6 * i) boxes)
+
+-- The boxes of all triangles of a list.
+abbrev pub Boxed : List ℤ → List ℤ → Type 0
+Boxed numbers boxes = (i : ℕ) → i < triangles numbers → six i boxes ≡ boxOf (nine i numbers)
+
+-- A list of few enough triangles that passed the checks.
+pub record Sound (numbers : List ℤ) : Type 0 where
+  pub few : triangles numbers ≤ 1024
+  pub passed : (i : ℕ) → i < triangles numbers → Passed 3 3 (nine i numbers)
+
+-- Such a list, and the boxes of its triangles.
+pub record Prepared (numbers boxes : List ℤ) : Type 0 where
+  pub sound : Sound numbers
+  pub room : 6 * triangles numbers ≤ length boxes
+  pub boxed : Boxed numbers boxes

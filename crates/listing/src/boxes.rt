@@ -1,0 +1,92 @@
+// The boxes of triangles, which tell of most pairs of a large bed that they are apart. A box is six numbers: the least x, y and z of the
+// corners, and then the greatest.
+ghost use mathlib.Core.Path.{_≡_};
+ghost use Prim.Native.Nat.{_+_, _*_, _≤_, _<_};
+ghost use lib.ListN.{length};
+ghost use Rattle.listing.specs.Rules.{triangles};
+ghost use Rattle.listing.specs.Boxes.{smaller, larger, bestAt, boxOf, apartAlong, boxesApart, Boxed};
+
+// The least coordinate c of the three corners in a list of nine numbers.
+fn least_at(c: usize, corners: &[i32]) -> i32
+    requires { ⌜ c + 6 < length (now corners) ⌝ }
+    ensures { λ r. ⌜ r ≡ bestAt smaller c (now (corners .entry)) ⌝ }
+{
+    if corners[c + 3] < corners[c] {
+        if corners[c + 6] < corners[c + 3] {
+            return corners[c + 6];
+        }
+        return corners[c + 3];
+    }
+    if corners[c + 6] < corners[c] {
+        return corners[c + 6];
+    }
+    corners[c]
+}
+
+// The greatest.
+fn greatest_at(c: usize, corners: &[i32]) -> i32
+    requires { ⌜ c + 6 < length (now corners) ⌝ }
+    ensures { λ r. ⌜ r ≡ bestAt larger c (now (corners .entry)) ⌝ }
+{
+    if corners[c] < corners[c + 3] {
+        if corners[c + 3] < corners[c + 6] {
+            return corners[c + 6];
+        }
+        return corners[c + 3];
+    }
+    if corners[c] < corners[c + 6] {
+        return corners[c + 6];
+    }
+    corners[c]
+}
+
+// Writes the box of a triangle.
+fn put_box(bounds: &mut [i32], corners: &[i32])
+    requires { ⌜ (length (now bounds) ≡ 6) × (length (now corners) ≡ 9) ⌝ }
+    ensures { λ r. ⌜ now (bounds .exit) ≡ boxOf (now (corners .entry)) ⌝ }
+{
+    bounds[0] = least_at(0, corners);
+    bounds[1] = least_at(1, corners);
+    bounds[2] = least_at(2, corners);
+    bounds[3] = greatest_at(0, corners);
+    bounds[4] = greatest_at(1, corners);
+    bounds[5] = greatest_at(2, corners);
+}
+
+// Writes the boxes of all triangles of a list.
+pub fn put_boxes(boxes: &mut [i32], numbers: &[i32])
+    requires { ⌜ 6 * triangles (now numbers) ≤ length (now boxes) ⌝ }
+    ensures { λ r. ⌜ Boxed (now (numbers .entry)) (now (boxes .exit)) ⌝ }
+{
+    let count = numbers.len() / 9;
+    let mut i: usize = 0;
+    while i < count {
+        put_box(&mut boxes[6 * i..6 * i + 6], &numbers[9 * i..9 * i + 9]);
+        i += 1;
+    }
+}
+
+// Whether one box ends before the other begins, at coordinate c.
+fn apart_along(c: usize, first: &[i32], second: &[i32]) -> bool
+    requires { ⌜ (c < 3) × (length (now first) ≡ 6) × (length (now second) ≡ 6) ⌝ }
+    ensures { λ r. ⌜ r ≡ apartAlong c (now (first .entry)) (now (second .entry)) ⌝ }
+{
+    if first[c + 3] < second[c] {
+        return true;
+    }
+    second[c + 3] < first[c]
+}
+
+// Whether they do at some coordinate.
+pub fn boxes_apart(first: &[i32], second: &[i32]) -> bool
+    requires { ⌜ (length (now first) ≡ 6) × (length (now second) ≡ 6) ⌝ }
+    ensures { λ r. ⌜ r ≡ boxesApart (now (first .entry)) (now (second .entry)) ⌝ }
+{
+    if apart_along(0, first, second) {
+        return true;
+    }
+    if apart_along(1, first, second) {
+        return true;
+    }
+    apart_along(2, first, second)
+}

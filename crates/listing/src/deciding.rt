@@ -1,0 +1,114 @@
+// The verdicts on all pairs of two lists, each pair decided once and kept as a bit of a word.
+use crate::boxes::boxes_apart;
+use crate::boxes::put_boxes;
+use kernel::triangles_meet;
+ghost use mathlib.Core.Path.{_≡_};
+ghost use Prim.Native.Nat.{ℕ, _+_, _*_, _≤_, _<_};
+ghost use lib.ListN.{length};
+ghost use Rattle.kernel.specs.Grid.{Passed};
+ghost use Rattle.kernel.specs.Meeting.{Judges};
+ghost use Rattle.listing.specs.Rules.{triangles, nine};
+ghost use Rattle.listing.specs.Boxes.{Sound, Prepared, boxOf};
+ghost use Rattle.listing.specs.Words.{span, ones, onesBelow, Verdicts, VerdictsBelow};
+
+// A word of verdicts, and how many of them are yes.
+pub struct Word {
+    pub bits: u64,
+    pub found: u64,
+}
+
+// Whether the triangle in nine numbers meets triangle j of the second list. Boxes come first.
+fn pair_meets(corners: &[i32], bounds: &[i32], second: &[i32], boxes: &[i32], j: usize) -> bool
+    requires { ⌜ Passed 3 3 (now corners) × (now bounds ≡ boxOf (now corners)) × Prepared (now second) (now boxes) × (j < triangles (now second)) ⌝ }
+    ensures { λ r. ⌜ Judges 3 3 3 (now (corners .entry)) (nine j (now (second .entry))) r ⌝ }
+{
+    if boxes_apart(bounds, &boxes[6 * j..6 * j + 6]) {
+        return false;
+    }
+    triangles_meet(corners, &second[9 * j..9 * j + 9])
+}
+
+// The verdicts on the triangle and `count` triangles of the second list. The last is decided first, so that the first is the lowest bit.
+fn decide_word(
+    corners: &[i32],
+    bounds: &[i32],
+    second: &[i32],
+    boxes: &[i32],
+    from: usize,
+    count: usize,
+) -> Word
+    requires { ⌜ Passed 3 3 (now corners) × (now bounds ≡ boxOf (now corners)) × Prepared (now second) (now boxes) × (count ≤ 64) × ((t : ℕ) → t < count → from + t < triangles (now second)) ⌝ }
+    ensures { λ r. ⌜ Verdicts (now (corners .entry)) (now (second .entry)) from count (r .bits) × (r .found ≡ ones count (r .bits)) ⌝ }
+{
+    let mut bits: u64 = 0;
+    let mut found: u64 = 0;
+    let mut t = count;
+    while 0 < t {
+        t -= 1;
+        let meet = pair_meets(corners, bounds, second, boxes, from + t) as u64;
+        bits = 2 * bits + meet;
+        found += meet;
+    }
+    Word {
+        bits: bits,
+        found: found,
+    }
+}
+
+// How many of m triangles there are from one on, 64 at the most.
+pub fn span_of(m: usize, from: usize) -> usize
+    ensures { λ r. ⌜ r ≡ span m from ⌝ }
+{
+    if m <= from {
+        return 0;
+    }
+    if m - from < 64 {
+        return m - from;
+    }
+    64
+}
+
+// All words of two lists whose boxes are known. Gives how many pairs meet.
+fn decide_words(
+    first: &[i32],
+    bounds: &[i32],
+    second: &[i32],
+    boxes: &[i32],
+    words: &mut [u64],
+) -> u64
+    requires { ⌜ Prepared (now first) (now bounds) × Prepared (now second) (now boxes) × (triangles (now first) * 16 ≤ length (now words)) ⌝ }
+    ensures { λ r. ⌜ VerdictsBelow (now (first .entry)) (now (second .entry)) (now (words .exit)) (triangles (now (first .entry)) * 16) × (r ≡ onesBelow (triangles (now (second .entry))) (now (words .exit)) (triangles (now (first .entry)) * 16)) ⌝ }
+{
+    let end = first.len() / 9 * 16;
+    let m = second.len() / 9;
+    let mut found: u64 = 0;
+    let mut k: usize = 0;
+    while k < end {
+        let i = k / 16;
+        let from = k % 16 * 64;
+        let word = decide_word(
+            &first[9 * i..9 * i + 9],
+            &bounds[6 * i..6 * i + 6],
+            second,
+            boxes,
+            from,
+            span_of(m, from),
+        );
+        words[k] = word.bits;
+        found += word.found;
+        k += 1;
+    }
+    found
+}
+
+// The verdicts on all pairs of two lists that passed the checks. Gives how many pairs meet. There are boxes for 1,024 triangles a list.
+pub fn decide_lists(first: &[i32], second: &[i32], words: &mut [u64]) -> u64
+    requires { ⌜ Sound (now first) × Sound (now second) × (triangles (now first) * 16 ≤ length (now words)) ⌝ }
+    ensures { λ r. ⌜ VerdictsBelow (now (first .entry)) (now (second .entry)) (now (words .exit)) (triangles (now (first .entry)) * 16) × (r ≡ onesBelow (triangles (now (second .entry))) (now (words .exit)) (triangles (now (first .entry)) * 16)) ⌝ }
+{
+    let mut bounds = [0i32; 6_144];
+    put_boxes(&mut bounds[..], first);
+    let mut boxes = [0i32; 6_144];
+    put_boxes(&mut boxes[..], second);
+    decide_words(first, &bounds[..], second, &boxes[..], words)
+}
