@@ -1,9 +1,20 @@
-//! The pair call of libdoor.a, which is linked into this program.
+//! The calls of libdoor.a that are timed. The library is linked into this program.
 
 use crate::ordinary::Answer;
 
 extern "C" {
     fn zg_pair(a: *const i32, a_len: usize, b: *const i32, b_len: usize, answer: *mut u64, answer_len: usize) -> u32;
+    fn zg_list(
+        a: *const i32,
+        a_len: usize,
+        b: *const i32,
+        b_len: usize,
+        buffer: *mut u32,
+        buffer_len: usize,
+        start: usize,
+        answer: *mut u64,
+        answer_len: usize,
+    ) -> u32;
 }
 
 pub fn pair(first: &[i32], second: &[i32]) -> Answer {
@@ -19,12 +30,34 @@ pub fn pair(first: &[i32], second: &[i32]) -> Answer {
             numbers.len(),
         )
     };
+    told_answer(result, numbers)
+}
+
+pub fn list(first: &[i32], second: &[i32], buffer: &mut [u32], start: usize) -> Answer {
+    let mut numbers = [0; 4];
+    // SAFETY: each pointer leads to as many numbers as are named, and nothing else uses them meanwhile.
+    let result = unsafe {
+        zg_list(
+            first.as_ptr(),
+            first.len(),
+            second.as_ptr(),
+            second.len(),
+            buffer.as_mut_ptr(),
+            buffer.len(),
+            start,
+            numbers.as_mut_ptr(),
+            numbers.len(),
+        )
+    };
+    told_answer(result, numbers)
+}
+
+fn told_answer(result: u32, [number, side, place, value]: [u64; 4]) -> Answer {
     assert_eq!(result, 0, "four numbers are room enough for an answer");
-    let [number, side, place, verdict] = numbers;
     Answer {
         number,
         side,
         place,
-        verdict,
+        value,
     }
 }

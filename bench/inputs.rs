@@ -1,4 +1,8 @@
-//! The pairs: three kinds that are timed, each from a seed of its own, and faulty ones.
+//! The pairs: three kinds that are timed, each from a seed of its own, and faulty ones. The listings'
+//! inputs, in `lists`, are made of triangles of these kinds, and of surfaces.
+
+pub mod lists;
+mod surfaces;
 
 use crate::ordinary::{self, GRID, TRIANGLE_NUMBERS};
 use crate::random::Random;
@@ -61,14 +65,19 @@ fn box_pair(random: &mut Random, low: i32, high: i32) -> Pair {
 /// Each triangle has its corners near a point anywhere on the grid.
 fn small_pair(random: &mut Random) -> Pair {
     let mut pair = box_pair(random, -SMALL_HALF, SMALL_HALF);
-    let end = GRID - SMALL_HALF;
     for list in [&mut pair.first, &mut pair.second] {
-        let middle = [0; 3].map(|_| random.between(-end, end));
-        for (place, number) in list.iter_mut().enumerate() {
-            *number += middle[place % 3];
-        }
+        spread(random, list);
     }
     pair
+}
+
+/// Moves a small triangle from the middle of the grid to anywhere on it.
+fn spread(random: &mut Random, list: &mut List) {
+    let end = GRID - SMALL_HALF;
+    let middle = [0; 3].map(|_| random.between(-end, end));
+    for (place, number) in list.iter_mut().enumerate() {
+        *number += middle[place % 3];
+    }
 }
 
 /// Every fourth pair or so lies in one plane, on which one of the axes is upright.
@@ -92,16 +101,21 @@ pub fn faulty() -> Vec<[Vec<i32>; 2]> {
 }
 
 fn faulty_list(random: &mut Random) -> Vec<i32> {
-    let mut list = box_list(random, 0, TINY_END).to_vec();
+    let mut list = faulty_triangle(random).to_vec();
+    if random.once_in(4) {
+        list.resize(random.index(2 * TRIANGLE_NUMBERS), 0);
+    }
+    list
+}
+
+fn faulty_triangle(random: &mut Random) -> List {
+    let mut list = box_list(random, 0, TINY_END);
     if random.once_in(4) {
         list.copy_within(0..3, 6);
     }
     for _ in 0..random.below(3) {
         let place = random.index(list.len());
         list[place] = random.pick(&[GRID, GRID + 1, -GRID, -GRID - 1, i32::MAX, i32::MIN]);
-    }
-    if random.once_in(4) {
-        list.resize(random.index(2 * TRIANGLE_NUMBERS), 0);
     }
     list
 }

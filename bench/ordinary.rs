@@ -1,11 +1,13 @@
 //! The yardstick: an ordinary pair test, written for reading. It takes what `zg_pair` takes, makes
 //! the same checks in the same order, decides by the same method ("The method of document 000" in
-//! document 01, step by step) and gives the same four numbers.
+//! document 01, step by step) and gives the same four numbers. The ordinary listing, in `listing`,
+//! stands to `zg_list` in the same way.
 //!
 //! Every difference, product and determinant is a number of the type `W`: i128, or i64, in which
 //! everything on the grid fits as well.
 
 mod flat;
+pub mod listing;
 
 use std::cmp::Ordering::{Equal, Greater, Less};
 use std::ops::{Add, Mul, Sub};
@@ -20,7 +22,7 @@ pub struct Answer {
     pub number: u64,
     pub side: u64,
     pub place: u64,
-    pub verdict: u64,
+    pub value: u64,
 }
 
 /// A type of whole numbers to calculate with.
@@ -36,27 +38,27 @@ type Triangle = [Point; 3];
 /// Not inlined, so that it is called as a library's function is.
 #[inline(never)]
 pub fn pair<W: Whole>(first: &[i32], second: &[i32]) -> Answer {
-    match checked_verdict::<W>(first, second) {
-        Err(refusal) => refusal,
-        Ok(meeting) => Answer {
-            number: 0,
-            side: 0,
-            place: 0,
-            verdict: meeting.into(),
-        },
-    }
+    answered(checked_verdict::<W>(first, second).map(u64::from))
 }
 
 fn checked_verdict<W: Whole>(first: &[i32], second: &[i32]) -> Result<bool, Answer> {
     check_length(first, 0)?;
     check_length(second, 1)?;
-    check_grid(first, 0)?;
-    let first = triangle(first);
-    check_not_flat::<W>(first, 0)?;
-    check_grid(second, 1)?;
-    let second = triangle(second);
-    check_not_flat::<W>(second, 1)?;
+    let first = checked_triangle::<W>(first, 0, 0)?;
+    let second = checked_triangle::<W>(second, 1, 0)?;
     Ok(meet::<W>(first, second))
+}
+
+fn answered(value: Result<u64, Answer>) -> Answer {
+    value.map_or_else(
+        |refusal| refusal,
+        |value| Answer {
+            number: 0,
+            side: 0,
+            place: 0,
+            value,
+        },
+    )
 }
 
 // ---- The checks ----
@@ -66,7 +68,7 @@ fn refusal(number: u64, side: u64, place: usize) -> Answer {
         number,
         side,
         place: place as u64,
-        verdict: 0,
+        value: 0,
     }
 }
 
@@ -78,24 +80,17 @@ fn check_length(list: &[i32], side: u64) -> Result<(), Answer> {
     }
 }
 
-fn check_grid(list: &[i32], side: u64) -> Result<(), Answer> {
-    match list.iter().position(|number| !(-GRID..=GRID).contains(number)) {
-        Some(place) => Err(refusal(1, side, place)),
-        None => Ok(()),
+/// The triangle that nine numbers give, which are those at this index of their list.
+fn checked_triangle<W: Whole>(numbers: &[i32], side: u64, index: usize) -> Result<Triangle, Answer> {
+    if let Some(place) = numbers.iter().position(|number| !(-GRID..=GRID).contains(number)) {
+        return Err(refusal(1, side, TRIANGLE_NUMBERS * index + place));
     }
-}
-
-fn triangle(list: &[i32]) -> Triangle {
-    let corner = |at: usize| [list[at], list[at + 1], list[at + 2]];
-    [corner(0), corner(3), corner(6)]
-}
-
-fn check_not_flat<W: Whole>(triangle: Triangle, side: u64) -> Result<(), Answer> {
+    let corner = |at: usize| [numbers[at], numbers[at + 1], numbers[at + 2]];
+    let triangle = [corner(0), corner(3), corner(6)];
     if normal::<W>(triangle) == [W::from(0); 3] {
-        Err(refusal(2, side, 0))
-    } else {
-        Ok(())
+        return Err(refusal(2, side, index));
     }
+    Ok(triangle)
 }
 
 // ---- The determinants ----

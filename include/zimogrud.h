@@ -1,6 +1,6 @@
 /*
- * Zimogrud for C and C++: the exact signs of points, and the tests whether two shapes of the plane or of space have a point
- * in common, as libdoor.a has them.
+ * Zimogrud for C and C++: the exact signs of points, the tests whether two shapes of the plane or of space have a point in
+ * common, and the listing of all pairs of triangles of two lists that have one, as libdoor.a has them.
  *
  * What goes in. Points are one list of whole numbers, point after point:
  *
@@ -9,6 +9,7 @@
  *     zg_flat      two triangles of the plane, six numbers each
  *     zg_segment   a segment and a triangle of space, six and nine numbers
  *     zg_pair      two triangles of space, nine numbers each
+ *     zg_list      two lists of triangles of space, nine numbers a triangle; each list has 0 to 1024 triangles
  *
  * Any numbers and any lengths may be given. What can't be served is refused.
  *
@@ -19,21 +20,34 @@
  *     answer[2]   the place, by the table below; 0 where the call serves
  *     answer[3]   the value; 0 where the call refuses
  *
- * The result is 0; or it is 1, with `answer` untouched, where `answer` has room for fewer than four numbers. The result says
- * nothing of a refusal: read answer[0], and answer[3] only where that is 0.
+ * The result is 0; or it is 1, with `answer` untouched and `buffer` too, where `answer` has room for fewer than four numbers.
+ * The result says nothing of a refusal: read answer[0], and answer[3] only where that is 0.
+ *
+ * The listing. zg_list also writes to `buffer`, from buffer[start] on: two numbers for each pair of triangles that have a
+ * point in common, the index of the one in the first list and of the other in the second, both from 0. The pairs rise in the
+ * first index and then in the second. The numbers before buffer[start] and after the last pair stay as they are, and the whole
+ * buffer does where the call refuses. `start` counts numbers, not pairs. It may be the buffer's length: then there is no room,
+ * and the call serves where there is no pair.
  *
  *     refusal   given where                                                          place
  *     1         a number is below -524288 or above 524288                            its position in that list, from 0
- *     2         a triangle or a segment is flat (not zg_turn and zg_side)            0
+ *     2         a triangle or a segment is flat (not zg_turn and zg_side)            its index in that list, from 0
  *     3         a list has the wrong length                                          its length
+ *     4         `start` is above the buffer's length (zg_list)                       the buffer's length
+ *     5         there are fewer than two numbers a pair from `start` on (zg_list)    how many pairs there are
  *
- * A triangle is flat where its corners lie on one line, and a segment where its ends are equal.
+ * A triangle is flat where its corners lie on one line, and a segment where its ends are equal. In zg_list a length is wrong
+ * where it is no multiple of nine or is above 9216. A position is that of the number in its whole list, of whatever triangle;
+ * an index is 0 in a list of one shape. Refusals 4 and 5 have side 0.
  *
- * Of several faults the first counts: 3, first list before second; then 1 and then 2 of the first list, and of the second.
+ * Of several faults the first counts: 4; 3, first list before second; then 1 and then 2 of the first list, and of the second;
+ * 5. In zg_list each triangle is tried for 1 and then for 2 before the next one is. Of several numbers for which 1 could be
+ * given, that of the lowest position counts.
  *
  * What the caller owes, which no call can see for itself. Each pointer is not null, is aligned for its type and is valid for
- * as many numbers as the length beside it says, for reading and, at `answer`, for writing; not null and aligned also where the
- * length is 0. `answer` overlaps none of the other lists, and nothing else writes to any of them during the call.
+ * as many numbers as the length beside it says, for reading and, at `answer` and `buffer`, for writing; not null and aligned
+ * also where the length is 0. `answer` and `buffer` overlap neither each other nor any of the other lists, and nothing else
+ * writes to any of them during the call.
  */
 #ifndef ZIMOGRUD_H
 #define ZIMOGRUD_H
@@ -60,6 +74,10 @@ uint32_t zg_segment(const int32_t *a, size_t a_length, const int32_t *b, size_t 
 
 /* Value: whether the two triangles have a point in common. 0 apart, 1 meeting; a touch is meeting. */
 uint32_t zg_pair(const int32_t *a, size_t a_length, const int32_t *b, size_t b_length, uint64_t *answer, size_t answer_length);
+
+/* Value: how many pairs of a triangle of a and a triangle of b have a point in common; a touch counts. `buffer` gets them. */
+uint32_t zg_list(const int32_t *a, size_t a_length, const int32_t *b, size_t b_length, uint32_t *buffer, size_t buffer_length,
+    size_t start, uint64_t *answer, size_t answer_length);
 
 #ifdef __cplusplus
 }

@@ -1,10 +1,13 @@
 //! Own answers to every call, refusals included, as document 01 asks for them.
 
+pub mod listing;
+
 use crate::geometry::axes::{self, Overlap};
 use crate::geometry::clipping::{self, Reach};
 use crate::geometry::edges::{self, Contact};
 use crate::geometry::signs;
 use crate::geometry::{Point, Segment, Space, Triangle};
+use listing::ListingFindings;
 
 pub const GRID: i32 = 524_288;
 pub const TURN_NUMBERS: usize = 6;
@@ -16,6 +19,8 @@ pub const TRIANGLE_NUMBERS: usize = 9;
 pub const OFF_GRID: u64 = 1;
 pub const FLAT_SHAPE: u64 = 2;
 pub const WRONG_LENGTH: u64 = 3;
+pub const START_BEYOND_END: u64 = 4;
+pub const TOO_LITTLE_ROOM: u64 = 5;
 
 /// The four numbers that a call gives back.
 #[derive(Clone, Copy, PartialEq, Eq, Debug)]
@@ -46,30 +51,59 @@ impl Answer {
     }
 }
 
+/// All that a call must tell: its answer, and the pairs that a served listing writes.
+#[derive(Clone, PartialEq, Eq, Debug)]
+pub struct Outcome {
+    pub answer: Answer,
+    pub pairs: Vec<[u32; 2]>,
+}
+
+impl From<Answer> for Outcome {
+    fn from(answer: Answer) -> Outcome {
+        Outcome {
+            answer,
+            pairs: Vec::new(),
+        }
+    }
+}
+
 /// Everything wrong with one list, also what a weightier fault hides.
-#[derive(Clone, Copy, Default)]
+#[derive(Clone, Default)]
 pub struct ListFaults {
     pub length: Option<u64>,
-    pub off_grid: Option<u64>,
-    pub flat: bool,
+    /// Shape by shape; of one shape a coordinate off the grid before its being flat.
+    pub shapes: Vec<ShapeFault>,
+}
+
+#[derive(Clone, Copy)]
+pub struct ShapeFault {
+    pub number: u64,
+    pub place: u64,
+    /// Which shape of the list has it.
+    pub shape: usize,
 }
 
 impl ListFaults {
     /// The refusal number that this list would get if it were the only bad one.
     pub fn number_alone(&self) -> u64 {
-        match (self.length, self.off_grid, self.flat) {
-            (Some(_), _, _) => WRONG_LENGTH,
-            (None, Some(_), _) => OFF_GRID,
-            (None, None, true) => FLAT_SHAPE,
-            (None, None, false) => 0,
+        match (self.length, self.shapes.first()) {
+            (Some(_), _) => WRONG_LENGTH,
+            (None, Some(fault)) => fault.number,
+            (None, None) => 0,
         }
+    }
+
+    /// The first bad shape is off the grid and flat at once.
+    pub fn has_twofold_shape(&self) -> bool {
+        matches!(&self.shapes[..], [one, other, ..] if one.shape == other.shape)
     }
 }
 
-/// How two shapes lie.
+/// How two shapes lie, or what a listing had to deal with.
 pub enum Findings {
     Plane(PlaneFindings),
     Space(SpaceFindings),
+    Listing(ListingFindings),
 }
 
 /// How two triangles in the plane lie, by both methods.
@@ -90,30 +124,28 @@ pub struct SpaceFindings {
     pub seen_along: [bool; 3],
 }
 
-/// An own answer, with what led to it.
+/// An own outcome, with what led to it.
 pub struct Opinion {
-    pub answer: Answer,
-    /// The answer by the other own method. A difference is a fault of this program.
-    pub second_answer: Answer,
+    pub outcome: Outcome,
+    /// The outcome by the other own method. A difference is a fault of this program.
+    pub second_outcome: Outcome,
     pub faults: Vec<ListFaults>,
     pub findings: Option<Findings>,
 }
 
 impl Opinion {
     fn refusing(answer: Answer, faults: Vec<ListFaults>) -> Opinion {
-        Opinion {
-            answer,
-            second_answer: answer,
-            faults,
-            findings: None,
-        }
+        Opinion::of_answers(answer, answer, faults)
     }
 
     fn serving(value: u64, second_value: u64, faults: Vec<ListFaults>) -> Opinion {
-        let (answer, second_answer) = (Answer::served(value), Answer::served(second_value));
+        Opinion::of_answers(Answer::served(value), Answer::served(second_value), faults)
+    }
+
+    fn of_answers(answer: Answer, second_answer: Answer, faults: Vec<ListFaults>) -> Opinion {
         Opinion {
-            answer,
-            second_answer,
+            outcome: answer.into(),
+            second_outcome: second_answer.into(),
             faults,
             findings: None,
         }
@@ -189,15 +221,16 @@ pub fn pair(first: &[i32], second: &[i32]) -> Opinion {
     }
     let (first, second): (Triangle, Triangle) = (points_of(first), points_of(second));
     let findings = SpaceFindings {
-        reaches: [
-            clipping::edge_reach(&first, &second),
-            clipping::edge_reach(&second, &first),
-        ],
+        reaches: reaches(&first, &second),
         overlap: axes::overlap(&first, &second),
         sides: [sides(&first, &second), sides(&second, &first)].concat(),
         seen_along: seen_along(&second),
     };
     Opinion::serving_space(findings, faults)
+}
+
+fn reaches(first: &Triangle, second: &Triangle) -> [Reach; 2] {
+    [clipping::edge_reach(first, second), clipping::edge_reach(second, first)]
 }
 
 fn sides<const N: usize>(corners: &[Space; N], triangle: &Triangle) -> [i8; N] {
@@ -209,8 +242,7 @@ fn seen_along(triangle: &Triangle) -> [bool; 3] {
     [0, 1, 2].map(|axis| signs::shadow_turn(triangle, axis) != 0)
 }
 
-/// Wrong lengths come first, through all lists; then each list's own faults, list by list, a
-/// coordinate off the grid before a flat shape. A list here holds one shape, so its index is 0.
+/// Wrong lengths come first, through all lists; then the faults of each list's shapes, list by list.
 fn first_refusal(lists: &[ListFaults]) -> Option<Answer> {
     for (side, faults) in (0..).zip(lists) {
         if let Some(length) = faults.length {
@@ -218,47 +250,53 @@ fn first_refusal(lists: &[ListFaults]) -> Option<Answer> {
         }
     }
     for (side, faults) in (0..).zip(lists) {
-        if let Some(position) = faults.off_grid {
-            return Some(Answer::refused(OFF_GRID, side, position));
-        }
-        if faults.flat {
-            return Some(Answer::refused(FLAT_SHAPE, side, 0));
+        if let Some(fault) = faults.shapes.first() {
+            return Some(Answer::refused(fault.number, side, fault.place));
         }
     }
     None
 }
 
 fn point_faults(list: &[i32], wanted: usize) -> ListFaults {
-    let length = (list.len() != wanted).then_some(list.len() as u64);
-    let off_grid = list
-        .iter()
-        .position(|n| *n < -GRID || *n > GRID)
-        .map(|position| position as u64);
-    ListFaults {
-        length,
-        off_grid,
-        flat: false,
-    }
+    list_faults(list, wanted, list.len() == wanted, |_| false)
 }
 
 fn flat_triangle_faults(list: &[i32]) -> ListFaults {
-    shape_faults(list, |[a, b, c]| signs::turn_by_border_sum(a, b, c) == 0)
+    one_shape_faults(list, |[a, b, c]| signs::turn_by_border_sum(a, b, c) == 0)
 }
 
 fn segment_faults(list: &[i32]) -> ListFaults {
-    shape_faults(list, |[p, q]: Segment| p == q)
+    one_shape_faults(list, |[p, q]: Segment| p == q)
 }
 
-fn triangle_faults(list: &[i32]) -> ListFaults {
-    shape_faults(list, |corners| signs::is_on_one_line(&corners))
+pub fn triangle_faults(list: &[i32]) -> ListFaults {
+    one_shape_faults(list, |corners| signs::is_on_one_line(&corners))
 }
 
-fn shape_faults<const D: usize, const N: usize>(list: &[i32], is_flat: fn([Point<D>; N]) -> bool) -> ListFaults {
-    let mut faults = point_faults(list, D * N);
-    if faults.length.is_none() {
-        faults.flat = is_flat(points_of(list));
+/// Of a list that should hold one shape.
+fn one_shape_faults<const D: usize, const N: usize>(list: &[i32], is_flat: fn([Point<D>; N]) -> bool) -> ListFaults {
+    list_faults(list, D * N, list.len() == D * N, |shape| is_flat(points_of(shape)))
+}
+
+/// Of a list of shapes, so many numbers each. What is left over at its end counts for its length and the grid only.
+fn list_faults(list: &[i32], shape_numbers: usize, right_length: bool, is_flat: impl Fn(&[i32]) -> bool) -> ListFaults {
+    let mut shapes = Vec::new();
+    for (shape, numbers) in list.chunks(shape_numbers).enumerate() {
+        let mut found = |number, place: usize| {
+            let place = place as u64;
+            shapes.push(ShapeFault { number, place, shape });
+        };
+        if let Some(position) = numbers.iter().position(|n| *n < -GRID || *n > GRID) {
+            found(OFF_GRID, shape_numbers * shape + position);
+        }
+        if numbers.len() == shape_numbers && is_flat(numbers) {
+            found(FLAT_SHAPE, shape);
+        }
     }
-    faults
+    ListFaults {
+        length: (!right_length).then_some(list.len() as u64),
+        shapes,
+    }
 }
 
 fn points_of<const D: usize, const N: usize>(list: &[i32]) -> [Point<D>; N] {

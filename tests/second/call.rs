@@ -1,6 +1,7 @@
 //! One call with its lists: answered by own means, put to the door, compared, and shown.
 
-use crate::answers::{self, Answer, Opinion};
+use crate::answers::listing::Listing;
+use crate::answers::{self, Opinion, Outcome};
 use crate::door::{self, Function, Question, Reply, Room, ANSWER_NUMBERS};
 use std::fmt;
 
@@ -10,7 +11,11 @@ pub enum Call {
     Flat(Vec<i32>, Vec<i32>),
     Segment(Vec<i32>, Vec<i32>),
     Pair(Vec<i32>, Vec<i32>),
+    List(Listing),
 }
+
+/// A list is shown whole up to so many numbers.
+const SHOWN_NUMBERS: usize = 400;
 
 impl Call {
     pub fn own_opinion(&self) -> Opinion {
@@ -20,6 +25,22 @@ impl Call {
             Call::Flat(first, second) => answers::flat(first, second),
             Call::Segment(first, second) => answers::segment(first, second),
             Call::Pair(first, second) => answers::pair(first, second),
+            Call::List(listing) => listing.own_opinion(),
+        }
+    }
+
+    /// How many numbers the lent buffer must have; only a listing takes one.
+    pub fn buffer_length(&self) -> usize {
+        match self {
+            Call::List(listing) => listing.buffer_length,
+            _ => 0,
+        }
+    }
+
+    fn start(&self) -> u64 {
+        match self {
+            Call::List(listing) => listing.start,
+            _ => 0,
         }
     }
 
@@ -31,28 +52,34 @@ impl Call {
             Call::Flat(first, second) => (Function::Flat, first, second),
             Call::Segment(first, second) => (Function::Segment, first, second),
             Call::Pair(first, second) => (Function::Pair, first, second),
+            Call::List(listing) => (Function::List, &listing.lists.first, &listing.lists.second),
         };
         Question {
             function,
             first,
             second,
+            start: self.start(),
             room,
         }
     }
 
-    /// Compares the door's reply with the one that `answer` calls for; the error tells both.
-    pub fn compare_door(&self, answer: &Answer, room: &Room, theirs: &Reply) -> Result<(), String> {
-        let ours = door::wanted_reply(answer, room);
+    /// Compares the door's reply with the one that the outcome calls for; the error tells both.
+    pub fn compare_door(&self, outcome: &Outcome, room: &Room, theirs: &Reply) -> Result<(), String> {
+        let ours = door::wanted_reply(outcome, self.start(), room);
         if *theirs == ours {
             return Ok(());
         }
         let mut text = format!("{self}\n  ours:   {}\n  theirs: {}", shown(&ours), shown(theirs));
-        if theirs.room != ours.room {
-            text += &format!("\n  answer before: {:?}", room.lent_part());
-            text += &format!("\n  answer after:  {:?}", theirs.room.lent_part());
+        if theirs.room.answer != ours.room.answer {
+            text += &format!("\n  answer before: {:?}", room.answer.part());
+            text += &format!("\n  answer after:  {:?}", theirs.room.answer.part());
         }
-        if theirs.room.margins() != ours.room.margins() {
+        text += &buffer_difference(&ours.room, &theirs.room);
+        if theirs.room.answer.margins() != ours.room.answer.margins() {
             text += "\n  numbers outside the lent answer were written";
+        }
+        if theirs.room.buffer.margins() != ours.room.buffer.margins() {
+            text += "\n  numbers outside the lent buffer were written";
         }
         if !theirs.lists_stayed {
             text += "\n  a lent list was written";
@@ -62,35 +89,51 @@ impl Call {
 
     /// Compares the two own methods; the error means that this program is at fault.
     pub fn compare_own(&self, opinion: &Opinion) -> Result<(), String> {
-        if opinion.answer == opinion.second_answer {
+        if opinion.outcome == opinion.second_outcome {
             return Ok(());
         }
-        let (one, other) = (opinion.answer, opinion.second_answer);
+        let (one, other) = (&opinion.outcome, &opinion.second_outcome);
         Err(format!(
             "the two own methods differ, so the second program is wrong\n{self}\n  {one:?}\n  {other:?}"
         ))
     }
-}
 
-impl fmt::Display for Call {
-    fn fmt(&self, f: &mut fmt::Formatter) -> fmt::Result {
-        let (name, lists): (_, Vec<(&str, &[i32])>) = match self {
+    fn lists(&self) -> (&'static str, Vec<(&'static str, &[i32])>) {
+        match self {
             Call::Turn(points) => ("turn", vec![("points", points)]),
             Call::Side(points) => ("side", vec![("points", points)]),
             Call::Flat(first, second) => ("flat", vec![("first", first), ("second", second)]),
             Call::Segment(first, second) => ("segment", vec![("first", first), ("second", second)]),
             Call::Pair(first, second) => ("pair", vec![("first", first), ("second", second)]),
-        };
+            Call::List(listing) => {
+                let lists = &listing.lists;
+                ("list", vec![("first", &lists.first), ("second", &lists.second)])
+            }
+        }
+    }
+}
+
+impl fmt::Display for Call {
+    fn fmt(&self, f: &mut fmt::Formatter) -> fmt::Result {
+        let (name, lists) = self.lists();
         write!(f, "zg_{name}")?;
         for (place, list) in lists {
-            write!(f, "\n  {place} ({}): {list:?}", list.len())?;
+            let (front, rest) = list.split_at(list.len().min(SHOWN_NUMBERS));
+            write!(f, "\n  {place} ({}): {front:?}", list.len())?;
+            if !rest.is_empty() {
+                write!(f, " and {} more", rest.len())?;
+            }
+        }
+        if let Call::List(listing) = self {
+            let (length, start) = (listing.buffer_length, listing.start);
+            write!(f, "\n  buffer of {length} numbers, start {start}")?;
         }
         Ok(())
     }
 }
 
 fn shown(reply: &Reply) -> String {
-    match reply.room.lent_part() {
+    match reply.room.answer.part() {
         [number, side, place, value, ..] => {
             format!(
                 "result {}, number {number}, side {side}, place {place}, value {value}",
@@ -99,4 +142,15 @@ fn shown(reply: &Reply) -> String {
         }
         _ => format!("result {}, room for fewer than {ANSWER_NUMBERS} numbers", reply.result),
     }
+}
+
+/// The first number of the lent buffer that differs, and how many do; empty where none does.
+fn buffer_difference(ours: &Room, theirs: &Room) -> String {
+    let places = ours.buffer.part().iter().zip(theirs.buffer.part()).enumerate();
+    let mut different = places.filter(|(_, (our, their))| our != their);
+    let Some((place, (our, their))) = different.next() else {
+        return String::new();
+    };
+    let count = 1 + different.count();
+    format!("\n  numbers of the buffer that differ: {count}, the first at {place}: ours {our}, theirs {their}")
 }

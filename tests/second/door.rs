@@ -1,12 +1,15 @@
-//! The door: the functions of the library under check, and the room lent to them for an answer,
-//! filled with marks that show afterwards what was written and what was left.
+//! The door: the functions of the library under check, and the room lent to them for an answer and for the pairs of a
+//! listing, filled with marks that show afterwards what was written and what was left.
 //!
 //! The library is x86-64 code. A program for x86-64 has it linked in; any other reaches it through
 //! a relay. Both take a batch of questions and give a batch of replies. The flag `--cfg linked`
 //! links a library for the processor at hand, to try the linked way there.
 
-use crate::answers::Answer;
+mod lent;
+
+use crate::answers::Outcome;
 use crate::random::Random;
+use lent::{Lent, MARGIN};
 
 #[cfg(any(target_arch = "x86_64", linked))]
 mod linked;
@@ -19,53 +22,46 @@ mod relay;
 pub use relay::Door;
 
 pub const ANSWER_NUMBERS: usize = 4;
-const LONGEST_LENT: usize = 8;
-const MARGIN: usize = 4;
-const ROOM_NUMBERS: usize = MARGIN + LONGEST_LENT + MARGIN;
+const LONGEST_ANSWER: usize = 8;
 
-/// The answer room with a margin on both sides: a write outside the lent part shows too.
+/// All that is lent to be written. Only a listing gets the buffer; around the empty one of another call stand its
+/// margins all the same.
 #[derive(Clone, PartialEq, Eq)]
 pub struct Room {
-    numbers: [u64; ROOM_NUMBERS],
-    lent: usize,
+    pub answer: Lent<u64>,
+    pub buffer: Lent<u32>,
 }
 
 impl Room {
-    pub fn with_marks(random: &mut Random, lent: usize) -> Room {
-        assert!(lent <= LONGEST_LENT);
+    pub fn with_marks(random: &mut Random, answer_length: usize, buffer_length: usize) -> Room {
         Room {
-            numbers: [0; ROOM_NUMBERS].map(|_| random.next()),
-            lent,
+            answer: Lent::with_marks(answer_length, || random.next()),
+            buffer: Lent::with_marks(buffer_length, || random.next() as u32),
         }
     }
 
-    /// Mostly room enough, with up to four numbers to spare; now and then too little.
-    pub fn of_any_length(random: &mut Random) -> Room {
-        let lent = if random.once_in(32) {
+    /// The answer mostly has room enough, with up to four numbers to spare; now and then too little.
+    pub fn with_any_answer(random: &mut Random, buffer_length: usize) -> Room {
+        let answer_length = if random.once_in(32) {
             random.index(ANSWER_NUMBERS)
         } else {
-            ANSWER_NUMBERS + random.index(LONGEST_LENT - ANSWER_NUMBERS + 1)
+            ANSWER_NUMBERS + random.index(LONGEST_ANSWER - ANSWER_NUMBERS + 1)
         };
-        Room::with_marks(random, lent)
+        Room::with_marks(random, answer_length, buffer_length)
     }
 
     pub fn is_too_short(&self) -> bool {
-        self.lent < ANSWER_NUMBERS
+        self.answer.length() < ANSWER_NUMBERS
     }
 
-    pub fn lent_part(&self) -> &[u64] {
-        &self.numbers[MARGIN..MARGIN + self.lent]
-    }
-
-    pub fn margins(&self) -> (&[u64], &[u64]) {
-        (&self.numbers[..MARGIN], &self.numbers[MARGIN + self.lent..])
-    }
-
-    fn holding(&self, answer: &Answer) -> Room {
-        let mut room = self.clone();
+    fn write(&mut self, outcome: &Outcome, start: u64) {
+        let answer = &outcome.answer;
         let numbers = [answer.number, answer.side, answer.place, answer.value];
-        room.numbers[MARGIN..MARGIN + ANSWER_NUMBERS].copy_from_slice(&numbers);
-        room
+        self.answer.write(0, numbers.into_iter());
+        if !outcome.pairs.is_empty() {
+            self.buffer
+                .write(start as usize, outcome.pairs.iter().copied().flatten());
+        }
     }
 }
 
@@ -76,6 +72,7 @@ pub enum Function {
     Flat,
     Segment,
     Pair,
+    List,
 }
 
 /// A function with the lists and the room to lend it. `Turn` and `Side` take no second list.
@@ -83,6 +80,8 @@ pub struct Question<'a> {
     pub function: Function,
     pub first: &'a [i32],
     pub second: &'a [i32],
+    /// Where the pairs of a listing start in the buffer; only `List` takes it.
+    pub start: u64,
     pub room: &'a Room,
 }
 
@@ -95,10 +94,14 @@ pub struct Reply {
     pub lists_stayed: bool,
 }
 
-/// What must be seen after a call with this room, given the right answer.
-pub fn wanted_reply(answer: &Answer, room: &Room) -> Reply {
+/// What must be seen after a call with this start and room, given the right outcome. Where the answer is too short,
+/// nothing at all is written.
+pub fn wanted_reply(outcome: &Outcome, start: u64, room: &Room) -> Reply {
     let short = room.is_too_short();
-    let room = if short { room.clone() } else { room.holding(answer) };
+    let mut room = room.clone();
+    if !short {
+        room.write(outcome, start);
+    }
     Reply {
         result: u32::from(short),
         room,

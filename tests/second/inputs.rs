@@ -2,17 +2,20 @@
 //! shapes that touch or nearly do, and every kind of bad list.
 
 mod faulty;
+mod listing;
 mod plane;
+mod scenes;
 mod space;
 
 pub use faulty::LONGEST_BAD_LIST;
+pub use listing::{any_listing, tiny_listing};
 pub use plane::{any_flat_pair, any_turn, tiny_flat_pair};
 pub use space::{any_pair, any_segment, any_side, tiny_pair, tiny_segment};
 
 use crate::answers::GRID;
 use crate::random::Random;
 
-/// The lists of two shapes.
+/// The lists of two shapes, or of two runs of triangles.
 type Lists = (Vec<i32>, Vec<i32>);
 
 fn box_list(random: &mut Random, numbers: usize, half: i32) -> Vec<i32> {

@@ -25,8 +25,11 @@ const USAGE: &str = "usage: second [--pairs N] [--seed S] [--tiny]";
 const DEFAULT_PAIRS: u64 = 1_000_000;
 /// From this many pairs on, a case that never came up is a fault of the inputs.
 const PAIRS_THAT_MEET_ALL_CASES: u64 = 100_000;
-/// The same of the finer cases, of how the shapes lay: the rarest comes up some forty times in so many.
+/// The same of the finer cases, of how the shapes lay and of where a listing's faults were: the rarest comes up some
+/// twenty-five times in so many.
 const PAIRS_THAT_MEET_FINER_CASES: u64 = 1_000_000;
+/// A listing has many pairs, so there is one for so many pairs of each other kind.
+const PAIRS_TO_A_LISTING: u64 = 20;
 /// This many inputs go to the door at once.
 const BATCH: u64 = 1_000;
 
@@ -116,11 +119,13 @@ fn plans(settings: &Settings) -> Vec<Plan> {
         any_input,
     };
     let (pairs, quarter) = (settings.pairs, settings.pairs.div_ceil(4));
+    let listings = pairs.div_ceil(PAIRS_TO_A_LISTING);
     if settings.tiny {
         return vec![
             plan(tally::FLAT, pairs, inputs::tiny_flat_pair),
             plan(tally::SEGMENT, pairs, inputs::tiny_segment),
             plan(tally::PAIR, pairs, inputs::tiny_pair),
+            plan(tally::LIST, listings, inputs::tiny_listing),
         ];
     }
     vec![
@@ -129,6 +134,7 @@ fn plans(settings: &Settings) -> Vec<Plan> {
         plan(tally::PAIR, pairs, inputs::any_pair),
         plan(tally::TURN, quarter, inputs::any_turn),
         plan(tally::SIDE, quarter, inputs::any_side),
+        plan(tally::LIST, listings, inputs::any_listing),
     ]
 }
 
@@ -166,16 +172,16 @@ fn compare_bench(door: &mut Door, seed: u64) -> Result<usize, String> {
     for row in &rows {
         let opinion = row.call.own_opinion();
         row.call.compare_own(&opinion)?;
-        if opinion.answer != row.answer {
-            let (name, own) = (row.name, opinion.answer);
+        if opinion.outcome != row.outcome {
+            let (name, own) = (row.name, opinion.outcome.answer);
             return Err(format!("the second program is wrong on bench row {name}: {own:?}"));
         }
         let lengths = [ANSWER_NUMBERS, ANSWER_NUMBERS + 1, ANSWER_NUMBERS - 1];
-        let rooms = lengths.map(|lent| Room::with_marks(&mut random, lent));
+        let rooms = lengths.map(|length| Room::with_marks(&mut random, length, row.call.buffer_length()));
         let replies = ask(door, rooms.iter().map(|room| row.call.question(room)));
         let replies = replies.map_err(|text| format!("FAILURE on bench row {}: {text}", row.name))?;
         for (room, reply) in rooms.iter().zip(&replies) {
-            let compared = row.call.compare_door(&row.answer, room, reply);
+            let compared = row.call.compare_door(&row.outcome, room, reply);
             compared.map_err(|text| format!("DISAGREEMENT on bench row {}: {text}", row.name))?;
         }
     }
@@ -189,7 +195,11 @@ fn compare_many(door: &mut Door, seed: u64, stream: u64, plan: Plan) -> Result<T
     let mut tally = Tally::new(plan.cases);
     while tally.compared < plan.count {
         let size = BATCH.min(plan.count - tally.compared);
-        let any_input = |_| ((plan.any_input)(&mut random), Room::of_any_length(&mut random));
+        let any_input = |_| {
+            let call = (plan.any_input)(&mut random);
+            let room = Room::with_any_answer(&mut random, call.buffer_length());
+            (call, room)
+        };
         let inputs: Vec<(Call, Room)> = (0..size).map(any_input).collect();
         compare_batch(door, &mut tally, &inputs)?;
     }
@@ -207,7 +217,7 @@ fn compare_batch(door: &mut Door, tally: &mut Tally, inputs: &[(Call, Room)]) ->
     for (number, ((call, room), reply)) in (before + 1..).zip(inputs.iter().zip(&replies)) {
         let opinion = call.own_opinion();
         call.compare_own(&opinion)?;
-        let compared = call.compare_door(&opinion.answer, room, reply);
+        let compared = call.compare_door(&opinion.outcome, room, reply);
         compared.map_err(|text| format!("DISAGREEMENT on input {number} of {text}"))?;
         tally.note(&opinion, room.is_too_short());
     }

@@ -6,15 +6,17 @@
  * A request is one frame. Its reply is the same frame, of the same size, as the call left it. All numbers in it are
  * little-endian:
  *
- *     bytes 0 to 3     the mark of a frame, 0x7a670001
- *     bytes 4 to 7     the call: 1 zg_turn, 2 zg_side, 3 zg_flat, 4 zg_segment, 5 zg_pair
+ *     bytes 0 to 3     the mark of a frame, 0x7a670002
+ *     bytes 4 to 7     the call: 1 zg_turn, 2 zg_side, 3 zg_flat, 4 zg_segment, 5 zg_pair, 6 zg_list
  *     bytes 8 to 11    in a reply the result; in a request any number
- *     bytes 12 to 15   how many numbers the first list has
- *     bytes 16 to 19   how many numbers the second list has; 0 for zg_turn and zg_side
- *     bytes 20 to 23   how many numbers the room has
- *     bytes 24 to 27   the position in the room where the lent answer starts
- *     bytes 28 to 31   how many numbers the lent answer has
- *     then             the room: the lent answer with margins around it, unsigned 64-bit numbers
+ *     bytes 12 to 15   how many numbers each margin has
+ *     bytes 16 to 19   how many numbers the first list has
+ *     bytes 20 to 23   how many numbers the second list has; 0 for zg_turn and zg_side
+ *     bytes 24 to 27   how many numbers the lent answer has
+ *     bytes 28 to 31   how many numbers the lent buffer has; 0 for all but zg_list
+ *     bytes 32 to 39   the start place, for zg_list only
+ *     then             a margin, the lent answer and a margin, unsigned 64-bit numbers
+ *     then             a margin, the lent buffer and a margin, unsigned 32-bit numbers
  *     then             the first list and then the second, signed 32-bit numbers
  *     then             four bytes of 0 where the frame's size would not be a multiple of eight without them
  *
@@ -28,10 +30,12 @@
  */
 #include "zimogrud.h"
 
-#define MARK 0x7a670001u
+#define MARK 0x7a670002u
 
-enum { TURN = 1, SIDE = 2, FLAT = 3, SEGMENT = 4, PAIR = 5 };
-enum { LONGEST_LIST = 1024, LONGEST_ROOM = 64, BLOCK_BYTES = 1 << 20 };
+enum { TURN = 1, SIDE = 2, FLAT = 3, SEGMENT = 4, PAIR = 5, LIST = 6 };
+/* A listing has 2^20 pairs at most, of two numbers each. The block takes a frame with the longest of everything. */
+enum { LONGEST_LIST = 1 << 14, LONGEST_ANSWER = 64, LONGEST_MARGIN = 64, LONGEST_BUFFER = (1 << 21) + (1 << 14) };
+enum { BLOCK_BYTES = 1 << 24 };
 enum { ALL_SERVED = 0, MALFORMED = 1, NO_PIPE = 2 };
 enum { SYSTEM_READ = 0, SYSTEM_WRITE = 1, SYSTEM_EXIT = 231 };
 enum { STANDARD_INPUT = 0, STANDARD_OUTPUT = 1, INTERRUPTED = -4 };
@@ -40,11 +44,12 @@ struct head {
     uint32_t mark;
     uint32_t call;
     uint32_t result;
+    uint32_t margin;
     uint32_t first_length;
     uint32_t second_length;
-    uint32_t room_length;
-    uint32_t answer_start;
     uint32_t answer_length;
+    uint32_t buffer_length;
+    uint64_t start;
 };
 
 /* The frames that have arrived, the first at the front. */
@@ -127,23 +132,34 @@ static void write_all(const unsigned char *from, size_t size)
 static int is_well_formed(const struct head *head)
 {
     uint32_t longest_second = head->call >= FLAT ? LONGEST_LIST : 0;
-    return head->mark == MARK && head->call >= TURN && head->call <= PAIR && head->first_length <= LONGEST_LIST
-        && head->second_length <= longest_second && head->room_length <= LONGEST_ROOM
-        && head->answer_start <= head->room_length && head->answer_length <= head->room_length - head->answer_start;
+    uint32_t longest_buffer = head->call == LIST ? LONGEST_BUFFER : 0;
+    return head->mark == MARK && head->call >= TURN && head->call <= LIST && head->margin <= LONGEST_MARGIN
+        && head->first_length <= LONGEST_LIST && head->second_length <= longest_second
+        && head->answer_length <= LONGEST_ANSWER && head->buffer_length <= longest_buffer;
+}
+
+/* How many numbers a lent run has with its margins. */
+static size_t with_margins(const struct head *head, uint32_t length)
+{
+    return (size_t)length + 2 * (size_t)head->margin;
 }
 
 static size_t frame_size(const struct head *head)
 {
     size_t list_bytes = sizeof(int32_t) * ((size_t)head->first_length + head->second_length);
-    return sizeof *head + sizeof(uint64_t) * head->room_length + (list_bytes + 7) / 8 * 8;
+    size_t buffer_bytes = sizeof(uint32_t) * with_margins(head, head->buffer_length);
+    size_t answer_bytes = sizeof(uint64_t) * with_margins(head, head->answer_length);
+    return sizeof *head + answer_bytes + (buffer_bytes + list_bytes + 7) / 8 * 8;
 }
 
 static uint32_t make_call(const struct head *head, unsigned char *frame)
 {
-    uint64_t *room = (uint64_t *)(frame + sizeof *head);
-    uint64_t *answer = room + head->answer_start;
-    const int32_t *first = (const int32_t *)(room + head->room_length);
+    uint64_t *answer_room = (uint64_t *)(frame + sizeof *head);
+    uint32_t *buffer_room = (uint32_t *)(answer_room + with_margins(head, head->answer_length));
+    const int32_t *first = (const int32_t *)(buffer_room + with_margins(head, head->buffer_length));
     const int32_t *second = first + head->first_length;
+    uint64_t *answer = answer_room + head->margin;
+    uint32_t *buffer = buffer_room + head->margin;
     switch (head->call) {
     case TURN:
         return zg_turn(first, head->first_length, answer, head->answer_length);
@@ -153,8 +169,11 @@ static uint32_t make_call(const struct head *head, unsigned char *frame)
         return zg_flat(first, head->first_length, second, head->second_length, answer, head->answer_length);
     case SEGMENT:
         return zg_segment(first, head->first_length, second, head->second_length, answer, head->answer_length);
-    default:
+    case PAIR:
         return zg_pair(first, head->first_length, second, head->second_length, answer, head->answer_length);
+    default:
+        return zg_list(first, head->first_length, second, head->second_length, buffer, head->buffer_length, head->start,
+            answer, head->answer_length);
     }
 }
 
@@ -186,6 +205,9 @@ _Noreturn void relay(void)
         size_t served = 0, size;
         while ((size = serve(block + served, arrived - served)) != 0)
             served += size;
+        /* A long frame arrives in many parts, and stays where it is until it is whole. */
+        if (served == 0)
+            continue;
         write_all(block, served);
         memmove(block, block + served, arrived - served);
         arrived -= served;

@@ -1,14 +1,16 @@
 //! Counts of the cases met by each call, the lines that report them, and the cases that were missed.
 
+mod listings;
 mod meetings;
 
-use crate::answers::{ListFaults, Opinion, OFF_GRID, WRONG_LENGTH};
+use crate::answers::{ListFaults, Opinion, OFF_GRID, START_BEYOND_END, WRONG_LENGTH};
 use crate::answers::{FLAT_TRIANGLE_NUMBERS, SEGMENT_NUMBERS, SIDE_NUMBERS, TRIANGLE_NUMBERS, TURN_NUMBERS};
 use crate::inputs::LONGEST_BAD_LIST;
 use meetings::Meetings;
+use std::collections::BTreeSet;
 
-/// What the values 0, 1, 2 of a call mean, which refusals it knows, how many numbers each of its lists should hold, and
-/// what shapes these make.
+/// What the values 0, 1, 2 of a call mean (2 and more, of a listing), which refusals it knows, how many numbers each of
+/// its lists should hold, and what shapes these make.
 pub struct Cases {
     pub call: &'static str,
     /// What its inputs are called, in plural.
@@ -25,6 +27,8 @@ pub enum Shapes {
     FlatTriangles,
     SegmentAndTriangle,
     Triangles,
+    /// Any number of triangles in each list.
+    Runs,
 }
 
 pub const TURN: Cases = Cases {
@@ -64,7 +68,21 @@ pub const PAIR: Cases = Cases {
     ..FLAT
 };
 
-const REFUSAL_NUMBERS: usize = 4;
+pub const LIST: Cases = Cases {
+    call: "list",
+    inputs: "listings",
+    list_numbers: &[TRIANGLE_NUMBERS, TRIANGLE_NUMBERS],
+    values: &["no pair", "one pair", "more pairs"],
+    refusals: &[1, 2, 3, 4, 5],
+    shapes: Shapes::Runs,
+};
+
+const REFUSAL_NUMBERS: usize = 6;
+/// What a list can be refused for: nothing, or 1 to 3.
+const LIST_FAULTS: usize = 4;
+
+/// The number, side and place of a refusal.
+type Refusal = (u64, u64, u64);
 
 /// A case and how often it was met.
 type Count = (String, u64);
@@ -75,8 +93,7 @@ pub struct Tally {
     too_short: u64,
     values: [u64; 3],
     refusals: [[u64; 2]; REFUSAL_NUMBERS],
-    /// The places that each refusal gave, by number and side.
-    places: [[[bool; LONGEST_BAD_LIST + 1]; 2]; REFUSAL_NUMBERS],
+    refused: BTreeSet<Refusal>,
     mixtures: FaultMixtures,
     meetings: Meetings,
 }
@@ -85,14 +102,14 @@ pub struct Tally {
 #[derive(Default)]
 struct FaultMixtures {
     /// By the fault of the first list alone and that of the second alone.
-    pairs: [[u64; REFUSAL_NUMBERS]; REFUSAL_NUMBERS],
+    pairs: [[u64; LIST_FAULTS]; LIST_FAULTS],
     /// Refused for the grid, with a shape that is flat as well; by side.
     off_grid_and_flat: [u64; 2],
 }
 
 impl Tally {
     pub fn new(cases: Cases) -> Tally {
-        let (values, refusals, places, mixtures) = Default::default();
+        let (values, refusals, refused, mixtures) = Default::default();
         let meetings = Meetings::of(cases.shapes);
         Tally {
             cases,
@@ -100,7 +117,7 @@ impl Tally {
             too_short: 0,
             values,
             refusals,
-            places,
+            refused,
             mixtures,
             meetings,
         }
@@ -121,23 +138,20 @@ impl Tally {
             self.too_short += 1;
             return;
         }
-        let answer = &opinion.answer;
+        let answer = &opinion.outcome.answer;
         if answer.number == 0 {
-            self.values[answer.value as usize] += 1;
+            self.values[answer.value.min(2) as usize] += 1;
         } else {
-            let (number, side) = (answer.number as usize, answer.side as usize);
-            self.refusals[number][side] += 1;
-            self.places[number][side][answer.place as usize] = true;
+            self.refusals[answer.number as usize][answer.side as usize] += 1;
+            self.refused.insert((answer.number, answer.side, answer.place));
         }
         if let [first, second] = &opinion.faults[..] {
             self.mixtures.note(first, second);
-            if answer.number == OFF_GRID && opinion.faults[answer.side as usize].flat {
+            if answer.number == OFF_GRID && opinion.faults[answer.side as usize].has_twofold_shape() {
                 self.mixtures.off_grid_and_flat[answer.side as usize] += 1;
             }
         }
-        if let Some(findings) = &opinion.findings {
-            self.meetings.note(findings);
-        }
+        self.meetings.note(opinion);
     }
 
     /// One line for the reader.
@@ -163,10 +177,14 @@ impl Tally {
         if with_refusals && self.sides() == 2 {
             counts.extend(self.mixtures.counts());
         }
+        if with_refusals && with_finer {
+            counts.extend(self.meetings.fine_mixtures());
+        }
         let missed = counts.into_iter().filter(|(_, count)| *count == 0);
         let mut missed: Vec<String> = missed.map(|(name, _)| format!("{}: {name}", self.cases.call)).collect();
-        if with_refusals {
-            missed.extend(self.missed_places());
+        // The places of many triangles are so many that they are finer cases.
+        if with_refusals && (with_finer || !matches!(self.cases.shapes, Shapes::Runs)) {
+            missed.extend(self.missed_refusals());
         }
         missed
     }
@@ -175,22 +193,27 @@ impl Tally {
         self.cases.list_numbers.len()
     }
 
-    /// Each position of a list must have been the lowest bad one, and each wrong length given.
-    fn missed_places(&self) -> Vec<String> {
-        let mut missed = Vec::new();
-        for (side, &numbers) in self.cases.list_numbers.iter().enumerate() {
-            let positions = (0..numbers).map(|place| (OFF_GRID, place));
-            let lengths = (0..=LONGEST_BAD_LIST).filter(|length| *length != numbers);
-            for (number, place) in positions.chain(lengths.map(|length| (WRONG_LENGTH, length))) {
-                if !self.places[number as usize][side][place] {
-                    missed.push(format!(
-                        "{}: refusal {number} side {side} place {place}",
-                        self.cases.call
-                    ));
-                }
-            }
-        }
+    fn missed_refusals(&self) -> Vec<String> {
+        let missed = self.wanted_refusals().into_iter();
         missed
+            .filter(|refusal| !self.refused.contains(refusal))
+            .map(|(number, side, place)| format!("{}: refusal {number} side {side} place {place}", self.cases.call))
+            .collect()
+    }
+
+    /// Each position of a list must have been the lowest bad one, and each wrong length given.
+    fn wanted_refusals(&self) -> Vec<Refusal> {
+        let mut wanted = Vec::new();
+        for (side, &numbers) in (0..).zip(self.cases.list_numbers) {
+            if let Shapes::Runs = self.cases.shapes {
+                wanted.extend(listings::wanted_refusals(side));
+                continue;
+            }
+            let lengths = (0..=LONGEST_BAD_LIST).filter(|length| *length != numbers);
+            wanted.extend((0..numbers).map(|place| (OFF_GRID, side, place as u64)));
+            wanted.extend(lengths.map(|length| (WRONG_LENGTH, side, length as u64)));
+        }
+        wanted
     }
 
     fn counts(&self, with_refusals: bool) -> Vec<Count> {
@@ -199,7 +222,9 @@ impl Tally {
         counts.extend(self.meetings.counts());
         if with_refusals {
             for &number in self.cases.refusals {
-                for side in 0..self.sides() {
+                // What a buffer is refused for has one side only.
+                let sides = if number < START_BEYOND_END { self.sides() } else { 1 };
+                for side in 0..sides {
                     let count = self.refusals[number as usize][side];
                     counts.push((format!("refusal {number} side {side}"), count));
                 }

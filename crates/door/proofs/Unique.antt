@@ -1,16 +1,17 @@
 -- No second result and no second buffer meet a door's contract: both are fixed by the four numbers of its answer and by the
 -- buffer before. Assumes nothing.
-use mathlib.Core.Path.{_≡_, sym, _∙_, subst}
-use mathlib.Core.Bool.{Bool}
+use mathlib.Core.Path.{_≡_, refl, sym, _∙_, subst}
+use mathlib.Core.Bool.{Bool, true≢false}
 use mathlib.Core.List.{List}
 use Prim.Native.Nat.{ℕ}
 use lib.IntN.{ℤ}
 use Rattle.checks.specs.Answers.{Answer, withServed}
 use Rattle.predicate.specs.Rules.{signRule}
 use Rattle.predicate.proofs.Unique.{rule-fixed}
+use Rattle.listing.proofs.Unique.{list-unique}
 use Rattle.shape.specs.Signs.{digit}
 use Rattle.door.specs.Numbers.{verdictCode, fourNumbers}
-use Rattle.door.specs.Buffer.{Written, VerdictWritten}
+use Rattle.door.specs.Buffer.{Written, VerdictWritten, ListWritten, undone, done}
 
 -- Whatever the numbers are.
 pub written-unique : {numbers before : List ℕ} {r s : ℕ} {after after′ : List ℕ} →
@@ -31,3 +32,15 @@ verdict-door-unique n k m first second before r s after after′ w v =
     written-unique
     (subst (λ (a : Answer Bool). Written (fourNumbers (withServed verdictCode a)) before r after) (rule-fixed (w .right) (v .right)) (w .written))
     (v .written)
+
+-- And of the listing's door: result, pairs and answer.
+pub list-door-unique : {a b : List ℤ} {buffer : List ℕ} {start : ℕ} {before : List ℕ} {r s : ℕ} {filled filled′ after after′ : List ℕ} →
+    ListWritten a b buffer start before r filled after → ListWritten a b buffer start before s filled′ after′ →
+    (r ≡ s) × (filled ≡ filled′) × (after ≡ after′)
+list-door-unique (undone e) (undone f) = (refl, refl, refl)
+list-door-unique (undone e) (done told f rule w) = absurd (true≢false (sym e ∙ f))
+list-door-unique (done told e rule w) (undone f) = absurd (true≢false (sym f ∙ e))
+list-door-unique {before} {r} {after} (done told e rule w) (done told′ f rule′ w′) =
+    let same = list-unique rule rule′ in
+    let both = written-unique (subst (λ (t : Answer ℕ). Written (fourNumbers t) before r after) (same .0) w) w′ in
+    (both .0, same .1, both .1)

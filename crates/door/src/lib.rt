@@ -1,12 +1,14 @@
-// The doors for programs in C and Rust: each public call of crate `predicate` that they are to have, with its answer written
+// The doors for programs in C and Rust: each public call of crates `predicate` and `listing` that they are to have, with its answer written
 // as four numbers into a buffer that the caller lends. include/zimogrud.h declares them for C.
 //
 // A door has no `requires`: any lists and any buffer may be given. specs/Numbers.antt gives the four numbers of every answer,
 // specs/Buffer.antt the result and the buffer afterwards, and proofs/Unique.antt shows that nothing else meets a contract.
+mod listings;
 mod numbers;
 mod signs;
 mod verdicts;
 
+pub use listings::zg_list;
 pub use signs::zg_side;
 pub use signs::zg_turn;
 pub use verdicts::zg_flat;

@@ -1,6 +1,6 @@
 //! The door of a library that is linked into this program.
 
-use super::{Function, Question, Reply, Room, MARGIN};
+use super::{Function, Lent, Question, Reply, MARGIN};
 
 extern "C" {
     fn zg_turn(points: *const i32, points_len: usize, answer: *mut u64, answer_len: usize) -> u32;
@@ -9,6 +9,17 @@ extern "C" {
     fn zg_segment(a: *const i32, a_len: usize, b: *const i32, b_len: usize, answer: *mut u64, answer_len: usize)
         -> u32;
     fn zg_pair(a: *const i32, a_len: usize, b: *const i32, b_len: usize, answer: *mut u64, answer_len: usize) -> u32;
+    fn zg_list(
+        a: *const i32,
+        a_len: usize,
+        b: *const i32,
+        b_len: usize,
+        buffer: *mut u32,
+        buffer_len: usize,
+        start: usize,
+        answer: *mut u64,
+        answer_len: usize,
+    ) -> u32;
 }
 
 pub struct Door;
@@ -33,7 +44,9 @@ fn reply_to(question: &Question) -> Reply {
     let (a, a_len) = (first.as_mut_ptr().cast_const(), first.len());
     let (b, b_len) = (second.as_mut_ptr().cast_const(), second.len());
     let mut room = question.room.clone();
-    let (answer, answer_len) = (lent_pointer(&mut room), room.lent);
+    let (answer, answer_len) = lent_pointer(&mut room.answer);
+    let (buffer, buffer_len) = lent_pointer(&mut room.buffer);
+    let start = question.start as usize;
     // SAFETY: each pointer leads to as many numbers as are named, and nothing else uses them meanwhile.
     let result = unsafe {
         match question.function {
@@ -42,6 +55,7 @@ fn reply_to(question: &Question) -> Reply {
             Function::Flat => zg_flat(a, a_len, b, b_len, answer, answer_len),
             Function::Segment => zg_segment(a, a_len, b, b_len, answer, answer_len),
             Function::Pair => zg_pair(a, a_len, b, b_len, answer, answer_len),
+            Function::List => zg_list(a, a_len, b, b_len, buffer, buffer_len, start, answer, answer_len),
         }
     };
     Reply {
@@ -51,7 +65,7 @@ fn reply_to(question: &Question) -> Reply {
     }
 }
 
-fn lent_pointer(room: &mut Room) -> *mut u64 {
-    // Made from the whole array, so that a write into the margin can be seen afterwards.
-    room.numbers.as_mut_ptr().wrapping_add(MARGIN)
+fn lent_pointer<Number: Copy>(lent: &mut Lent<Number>) -> (*mut Number, usize) {
+    // Made from the whole run, so that a write into a margin can be seen afterwards.
+    (lent.numbers.as_mut_ptr().wrapping_add(MARGIN), lent.length())
 }

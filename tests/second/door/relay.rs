@@ -4,23 +4,23 @@
 //! A question is one frame, and its reply is the same frame, of the same size, as the call left
 //! it. All numbers in it are little-endian:
 //!
-//! - eight unsigned 32-bit numbers, the head: a mark; 1 to 5 for turn, side, flat, segment or pair; the
-//!   result (any number in a question); the lengths of the first list, the second list and the room;
-//!   the position in the room where the lent answer starts, and the length of the lent answer;
-//! - the room, unsigned 64-bit numbers;
+//! - the head, eight unsigned 32-bit numbers and an unsigned 64-bit number: a mark; 1 to 6 for turn, side, flat,
+//!   segment, pair or list; the result (any number in a question); the length of a margin; the lengths of the first
+//!   list, the second list, the lent answer and the lent buffer; and the start place of a listing;
+//! - the lent answer between two margins, unsigned 64-bit numbers;
+//! - the lent buffer between two margins, unsigned 32-bit numbers;
 //! - the first list and then the second, signed 32-bit numbers;
 //! - four bytes of 0 where the frame's size would not be a multiple of eight without them.
 
-use super::{Function, Question, Reply, Room, MARGIN, ROOM_NUMBERS};
+use super::{Function, Lent, Question, Reply, Room, MARGIN};
 use std::io::{Read, Write};
 use std::process::{Child, ChildStdin, ChildStdout, Command, Stdio};
 
 const COMMAND_VARIABLE: &str = "ZG_RELAY";
 
-const FRAME_MARK: u32 = 0x7a67_0001;
-const HEAD_BYTES: usize = 8 * 4;
+const FRAME_MARK: u32 = 0x7a67_0002;
+const HEAD_BYTES: usize = 8 * 4 + 8;
 const RESULT_AT: usize = 2 * 4;
-const LISTS_AT: usize = HEAD_BYTES + ROOM_NUMBERS * 8;
 /// Stands where the result will be: the relay has to write over it.
 const NO_RESULT: u32 = u32::MAX;
 
@@ -122,15 +122,21 @@ fn push_frame(bytes: &mut Vec<u8>, question: &Question) -> usize {
         Function::Flat => 3,
         Function::Segment => 4,
         Function::Pair => 5,
+        Function::List => 6,
     };
-    let lengths = [first.len(), second.len(), ROOM_NUMBERS, MARGIN, room.lent];
+    let (answer_length, buffer_length) = (room.answer.length(), room.buffer.length());
+    let lengths = [MARGIN, first.len(), second.len(), answer_length, buffer_length];
     for number in [FRAME_MARK, function, NO_RESULT] {
         bytes.extend(number.to_le_bytes());
     }
     for length in lengths {
         bytes.extend((length as u32).to_le_bytes());
     }
-    for number in room.numbers {
+    bytes.extend(question.start.to_le_bytes());
+    for number in &room.answer.numbers {
+        bytes.extend(number.to_le_bytes());
+    }
+    for number in &room.buffer.numbers {
         bytes.extend(number.to_le_bytes());
     }
     for number in first.iter().chain(second) {
@@ -146,14 +152,26 @@ fn read_frame(question: &Question, sent: &[u8], got: &[u8]) -> Result<Reply, Str
     if got[..RESULT_AT] != sent[..RESULT_AT] || got[after_result..HEAD_BYTES] != sent[after_result..HEAD_BYTES] {
         return Err("a call wrote far outside all that was lent, over the head of a frame".to_string());
     }
-    let result = u32::from_le_bytes(std::array::from_fn(|i| got[RESULT_AT + i]));
-    let number = |k: usize| u64::from_le_bytes(std::array::from_fn(|i| got[HEAD_BYTES + 8 * k + i]));
+    let result = u32::from_le_bytes(bytes_at(got, RESULT_AT));
+    let (answer_numbers, buffer_numbers) = (question.room.answer.numbers.len(), question.room.buffer.numbers.len());
+    let buffer_at = HEAD_BYTES + 8 * answer_numbers;
+    let lists_at = buffer_at + 4 * buffer_numbers;
+    let answer = (0..answer_numbers).map(|k| u64::from_le_bytes(bytes_at(got, HEAD_BYTES + 8 * k)));
+    let buffer = (0..buffer_numbers).map(|k| u32::from_le_bytes(bytes_at(got, buffer_at + 4 * k)));
     Ok(Reply {
         result,
         room: Room {
-            numbers: std::array::from_fn(number),
-            lent: question.room.lent,
+            answer: Lent {
+                numbers: answer.collect(),
+            },
+            buffer: Lent {
+                numbers: buffer.collect(),
+            },
         },
-        lists_stayed: got[LISTS_AT..] == sent[LISTS_AT..],
+        lists_stayed: got[lists_at..] == sent[lists_at..],
     })
+}
+
+fn bytes_at<const N: usize>(bytes: &[u8], place: usize) -> [u8; N] {
+    std::array::from_fn(|i| bytes[place + i])
 }

@@ -65,7 +65,7 @@ fn off_grid_list(random: &mut Random, numbers: usize) -> Vec<i32> {
     list
 }
 
-fn off_grid_number(random: &mut Random) -> i32 {
+pub fn off_grid_number(random: &mut Random) -> i32 {
     let near = GRID + random.between(1, 3);
     match random.below(5) {
         0 => near,
@@ -77,7 +77,7 @@ fn off_grid_number(random: &mut Random) -> i32 {
 }
 
 /// Equal corners, or corners on one line; of a segment equal ends.
-fn flat_shape<const D: usize>(random: &mut Random, corners: usize) -> Vec<i32> {
+pub fn flat_shape<const D: usize>(random: &mut Random, corners: usize) -> Vec<i32> {
     let half = any_half(random);
     if corners == 2 || random.once_in(4) {
         return box_point::<D>(random, half).repeat(corners);
@@ -110,7 +110,7 @@ fn axis_line<const D: usize>(random: &mut Random, corners: usize, half: i32) -> 
 }
 
 /// On one line, and with a number off the grid as well: the grid must be named first.
-fn flat_off_grid_shape<const D: usize>(random: &mut Random, corners: usize) -> Vec<i32> {
+pub fn flat_off_grid_shape<const D: usize>(random: &mut Random, corners: usize) -> Vec<i32> {
     let axis = random.index(D);
     if corners == 2 || random.once_in(2) {
         // All in one line or plane that is itself off the grid.

@@ -12,7 +12,7 @@ use crate::random::Random;
 type Vector = [i32; 3];
 
 /// No coordinate of a tiny pair is beyond this.
-const TINY: i32 = 4;
+pub const TINY: i32 = 4;
 /// Of a hundred pairs, so many are made to have faults.
 const FAULTY: u64 = 18;
 
@@ -79,14 +79,17 @@ fn pair_call(random: &mut Random, lists: Lists) -> Call {
 }
 
 /// Two triangles with every number on the grid, a few of them flat by chance.
-fn any_lists(random: &mut Random) -> Lists {
+pub fn any_lists(random: &mut Random) -> Lists {
     let half = any_half(random);
     let (mut first, second) = match random.below(100) {
         0..=39 => return tiny_lists(random),
         40..=44 => return box_lists(random, TRIANGLE_NUMBERS, GRID),
         45..=50 => return extreme_lists(random, TRIANGLE_NUMBERS),
-        51..=58 => magnified_lists(random),
-        59..=66 => sheared_lists(random),
+        51..=58 => magnified(tiny_lists(random)),
+        59..=66 => {
+            let lists = tiny_lists(random);
+            sheared(random, lists)
+        }
         67..=74 => Layout::any(random, HINGED_STEPS).hinged_lists(random),
         75..=84 => coplanar_lists(random),
         85..=94 => piercing_lists(random),
@@ -100,7 +103,7 @@ fn any_lists(random: &mut Random) -> Lists {
 }
 
 /// Two triangles with coordinates from -4 to 4.
-fn tiny_lists(random: &mut Random) -> Lists {
+pub fn tiny_lists(random: &mut Random) -> Lists {
     match random.below(8) {
         0..=3 => {
             let half = random.pick(&[1, 2, TINY]);
@@ -117,17 +120,17 @@ fn tiny_lists(random: &mut Random) -> Lists {
 // ---- Pictures laid out in space ----
 
 /// An origin and three steps.
-struct Layout {
+pub struct Layout {
     origin: Vector,
     steps: [Vector; 3],
 }
 
 /// So many steps at most lead from the origin to a corner of a hinged triangle.
-const HINGED_STEPS: i32 = 4;
+pub const HINGED_STEPS: i32 = 4;
 
 impl Layout {
     /// With steps of at most 1 in size.
-    fn tiny(random: &mut Random) -> Layout {
+    pub fn tiny(random: &mut Random) -> Layout {
         Layout {
             origin: [0; 3],
             steps: [0; 3].map(|_| box_point(random, 1)),
@@ -135,12 +138,23 @@ impl Layout {
     }
 
     /// Anywhere on the grid, for pictures of at most so many steps.
-    fn any(random: &mut Random, most_steps: i32) -> Layout {
+    pub fn any(random: &mut Random, most_steps: i32) -> Layout {
         let half = random.pick(&[2, 40, GRID]).min(GRID / 2 / most_steps);
         Layout {
             origin: box_point(random, GRID / 2),
             steps: [0; 3].map(|_| box_point(random, half)),
         }
+    }
+
+    /// Of a plane that is slanted, upright or level, for small pictures.
+    pub fn of_any_plane(random: &mut Random) -> Layout {
+        let (mut layout, axis) = (Layout::any(random, 2 * SMALL), random.index(3));
+        match random.below(4) {
+            0 => layout.steps.iter_mut().for_each(|step| step[axis] = 0),
+            1 => (0..3).filter(|k| *k != axis).for_each(|k| layout.steps[1][k] = 0),
+            _ => {}
+        }
+        layout
     }
 
     fn point(&self, counts: &[i32]) -> Vector {
@@ -153,13 +167,13 @@ impl Layout {
         picture.chunks(2).flat_map(|counts| self.point(counts)).collect()
     }
 
-    fn flat_lists(&self, (first, second): Lists) -> Lists {
+    pub fn flat_lists(&self, (first, second): Lists) -> Lists {
         (self.flat_list(&first), self.flat_list(&second))
     }
 
     /// Two triangles about a common line, each in a plane through it, with their corners on the line or one step to
     /// either side: so edges lie on edges, corners on edges and on corners, and edges cross edges at whole places.
-    fn hinged_lists(&self, random: &mut Random) -> Lists {
+    pub fn hinged_lists(&self, random: &mut Random) -> Lists {
         (self.hinged_list(random, 1), self.hinged_list(random, 2))
     }
 
@@ -179,20 +193,13 @@ impl Layout {
     }
 }
 
-/// Two triangles of one plane, slanted, upright or level.
+/// Two triangles of one plane.
 fn coplanar_lists(random: &mut Random) -> Lists {
-    let (mut layout, axis) = (Layout::any(random, 2 * SMALL), random.index(3));
-    match random.below(4) {
-        0 => layout.steps.iter_mut().for_each(|step| step[axis] = 0),
-        1 => (0..3).filter(|k| *k != axis).for_each(|k| layout.steps[1][k] = 0),
-        _ => {}
-    }
-    layout.flat_lists(small_picture(random))
+    Layout::of_any_plane(random).flat_lists(small_picture(random))
 }
 
-/// A tiny pair made as large as the grid.
-fn magnified_lists(random: &mut Random) -> Lists {
-    let (first, second) = tiny_lists(random);
+/// Tiny lists made as large as the grid.
+pub fn magnified((first, second): Lists) -> Lists {
     let large = |list: Vec<i32>| list.iter().map(|n| GRID / TINY * n).collect();
     (large(first), large(second))
 }
@@ -253,9 +260,9 @@ fn sheared_points(random: &mut Random) -> Vec<i32> {
     slant.list(box_list(random, SIDE_NUMBERS, 2))
 }
 
-fn sheared_lists(random: &mut Random) -> Lists {
+/// Tiny lists slanted far.
+pub fn sheared(random: &mut Random, (first, second): Lists) -> Lists {
     let (slant, origin): (_, Vector) = (Slant::any(random, 180), box_point(random, GRID / 2));
-    let (first, second) = tiny_lists(random);
     let moved = |list: Vec<i32>| list.iter().zip(origin.iter().cycle()).map(|(n, by)| n + by).collect();
     (moved(slant.list(first)), moved(slant.list(second)))
 }

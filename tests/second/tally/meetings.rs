@@ -1,7 +1,8 @@
 //! Counts of how the shapes of the served pairs lay: what they shared, and what made it hard to see.
 
+use super::listings::Listings;
 use super::{Count, Shapes};
-use crate::answers::{Findings, PlaneFindings, SpaceFindings};
+use crate::answers::{Findings, Opinion, PlaneFindings, SpaceFindings};
 use crate::geometry::axes::Overlap;
 use crate::geometry::clipping::Reach;
 use crate::geometry::edges::Contact;
@@ -10,6 +11,7 @@ pub enum Meetings {
     None,
     Plane(PlaneMeetings),
     Space(SpaceMeetings),
+    Listings(Box<Listings>),
 }
 
 impl Meetings {
@@ -19,13 +21,15 @@ impl Meetings {
             Shapes::FlatTriangles => Meetings::Plane(PlaneMeetings::default()),
             Shapes::SegmentAndTriangle => Meetings::Space(SpaceMeetings::new(2, 1)),
             Shapes::Triangles => Meetings::Space(SpaceMeetings::new(3, 2)),
+            Shapes::Runs => Meetings::Listings(Box::default()),
         }
     }
 
-    pub fn note(&mut self, findings: &Findings) {
-        match (self, findings) {
-            (Meetings::Plane(meetings), Findings::Plane(findings)) => meetings.note(findings),
-            (Meetings::Space(meetings), Findings::Space(findings)) => meetings.note(findings),
+    pub fn note(&mut self, opinion: &Opinion) {
+        match (self, &opinion.findings) {
+            (Meetings::Plane(meetings), Some(Findings::Plane(findings))) => meetings.note(findings),
+            (Meetings::Space(meetings), Some(Findings::Space(findings))) => meetings.note(findings),
+            (Meetings::Listings(listings), Some(Findings::Listing(findings))) => listings.note(opinion, findings),
             _ => {}
         }
     }
@@ -36,6 +40,7 @@ impl Meetings {
             Meetings::None => Vec::new(),
             Meetings::Plane(meetings) => meetings.counts(),
             Meetings::Space(meetings) => meetings.counts(),
+            Meetings::Listings(listings) => listings.counts(),
         }
     }
 
@@ -43,6 +48,15 @@ impl Meetings {
     pub fn fine_counts(&self) -> Vec<Count> {
         match self {
             Meetings::Space(meetings) => meetings.fine_counts(),
+            Meetings::Listings(listings) => listings.fine_counts(),
+            _ => Vec::new(),
+        }
+    }
+
+    /// The same of mixtures of faults.
+    pub fn fine_mixtures(&self) -> Vec<Count> {
+        match self {
+            Meetings::Listings(listings) => listings.fine_mixtures(),
             _ => Vec::new(),
         }
     }
@@ -213,7 +227,7 @@ impl SpaceMeetings {
     }
 }
 
-fn named(counts: impl IntoIterator<Item = (&'static str, u64)>) -> Vec<Count> {
+pub fn named(counts: impl IntoIterator<Item = (&'static str, u64)>) -> Vec<Count> {
     counts
         .into_iter()
         .map(|(name, count)| (name.to_string(), count))

@@ -1,0 +1,48 @@
+//! Lists that are closed surfaces: a cube whose faces are cut into small triangles, and a sphere, for
+//! which the corners of those triangles are pushed outwards.
+
+type Point = [i32; 3];
+
+/// Each edge of a cube is cut into so many pieces. This makes 12 * 9 * 9 = 972 triangles.
+const CUTS: i32 = 9;
+
+/// Half of an edge of the cube is CUTS * `scale`.
+pub fn cube(middle: Point, scale: i32) -> Vec<i32> {
+    surface(|corner| [0, 1, 2].map(|k| middle[k] + scale * corner[k]))
+}
+
+/// The corners are whole, so they are on the sphere but for a rounding. Every machine rounds the square
+/// root, the division and the products alike, so the corners are the same everywhere.
+pub fn sphere(middle: Point, radius: i32) -> Vec<i32> {
+    surface(|corner| {
+        let squares: i32 = corner.iter().map(|c| c * c).sum();
+        let stretch = f64::from(radius) / f64::from(squares).sqrt();
+        [0, 1, 2].map(|k| middle[k] + (stretch * f64::from(corner[k])).round() as i32)
+    })
+}
+
+/// The triangles of the cube from -CUTS to CUTS, whose faces have cells of two by two. Each corner
+/// goes where `placed` puts it.
+fn surface(placed: impl Fn(Point) -> Point) -> Vec<i32> {
+    let starts = || (-CUTS..CUTS).step_by(2);
+    let mut list = Vec::new();
+    for face in [(0, -CUTS), (0, CUTS), (1, -CUTS), (1, CUTS), (2, -CUTS), (2, CUTS)] {
+        for u in starts() {
+            for v in starts() {
+                let [a, b, c, d] = cell(face, u, v).map(&placed);
+                list.extend([a, b, c, c, d, a].as_flattened());
+            }
+        }
+    }
+    list
+}
+
+/// The corners of a cell of the face on which the coordinate `axis` is `level`, in order around it.
+fn cell((axis, level): (usize, i32), u: i32, v: i32) -> [Point; 4] {
+    [(u, v), (u + 2, v), (u + 2, v + 2), (u, v + 2)].map(|(u, v)| {
+        let mut corner = [level; 3];
+        corner[(axis + 1) % 3] = u;
+        corner[(axis + 2) % 3] = v;
+        corner
+    })
+}
