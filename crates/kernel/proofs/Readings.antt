@@ -3,12 +3,14 @@
 -- Assumes nothing.
 use mathlib.Core.Path.{_≡_, refl, sym, ap, _∙_}
 use mathlib.Core.Bool.{Bool, true, false}
-use mathlib.Core.List.{[], _∷_}
+use mathlib.Core.List.{List, [], _∷_, _++_, append-nil}
 use Prim.Native.Nat.{ℕ, zero, suc, _+_, _*_, _^_, _≤_, _<_}
 use native.Mathlib.Omega.{arith}
 use borrow.Author.Tests.{eqb-true, eqb-false}
 use lib.Dec.{T, ltb, eqb}
 use lib.IntN.{ℤ, pos, natAbs, _+ℤ_, _-ℤ_, _*ℤ_, +ℤ-invr}
+use lib.ListN.{length, getD, drop-of-length-le}
+use lib.Seq.{sets, sets-eq}
 use lib.Signed.{mag}
 use mir.Syntax.{w64}
 use mir.Val.{toZ, ofZ, hbits}
@@ -17,12 +19,13 @@ use Rattle.algebra.proofs.Expression.{_⊞_, _⊠_}
 use Rattle.algebra.proofs.Order.{eq-of-sub}
 use Rattle.algebra.proofs.Machine.{Reads, exact, held, returned, size, sum, difference, product}
 use Rattle.shape.specs.Points.{Point, coord}
-use Rattle.shape.specs.Signs.{turn, minor, determinant}
+use Rattle.shape.specs.Signs.{turn, side, row, minor, determinant}
 use Rattle.shape.specs.Flat.{isZero}
 use Rattle.shape.proofs.FlatLaws.{zero-says}
 use Rattle.shape.proofs.VerdictLaws.{says-no, says-fixed}
-use Rattle.shape.proofs.Symbols.{values, point, minorE, determinantE}
+use Rattle.shape.proofs.Symbols.{values, point, rowE, minorE, determinantE, sideOf}
 use Rattle.kernel.specs.Grid.{limit}
+use Rattle.kernel.specs.Spaces.{normalOf}
 use Rattle.kernel.specs.Vectors.{Sized, differenceSize, minorSize, minors, dot}
 
 -- A number stored in 64 bits and read back.
@@ -97,6 +100,51 @@ determinant-by-minors u v w =
     ring (values (u ∷ v ∷ w ∷ []))
     (point 0 0 ⊠ minorE 1 2 (point 1) (point 2) ⊞ point 0 1 ⊠ minorE 2 0 (point 1) (point 2) ⊞ point 0 2 ⊠ minorE 0 1 (point 1) (point 2))
     (determinantE (point 0) (point 1) (point 2)) tt refl
+
+-- ---- a list whose numbers are all stored anew, one by one
+pub all-stored : (new old : List ℤ) → length old ≡ length new → sets old 0 new ≡ new
+all-stored new old e =
+    sets-eq new old 0 (omega arith)
+    ∙ ap (λ (rest : List ℤ). new ++ rest) (drop-of-length-le old {i = 0 + length new} (omega arith))
+    ∙ append-nil new
+
+-- ---- three numbers of a list
+module _ (l : List ℤ) (long : length l ≡ 3) where
+  abbrev at : ℕ → ℤ
+  at i = getD l i (pos 0)
+
+  are-all : (l : List ℤ) → length l ≡ 3 → getD l 0 (pos 0) ∷ getD l 1 (pos 0) ∷ getD l 2 (pos 0) ∷ [] ≡ l
+  are-all [] e = absurd (omega arith)
+  are-all (x ∷ []) e = absurd (omega arith)
+  are-all (x ∷ y ∷ []) e = absurd (omega arith)
+  are-all (x ∷ y ∷ z ∷ []) e = refl
+  are-all (x ∷ y ∷ z ∷ w ∷ l) e = absurd (omega arith)
+
+  -- Read one by one they are the list.
+  pub three-read : mag (at 0) < 2 ^ hbits w64 → mag (at 1) < 2 ^ hbits w64 → mag (at 2) < 2 ^ hbits w64 →
+      kept (at 0) ∷ kept (at 1) ∷ kept (at 2) ∷ [] ≡ l
+  three-read f g h =
+      (λ i. returned w64 {r = at 0} {z = at 0} f refl i ∷ returned w64 {r = at 1} {z = at 1} g refl i ∷ returned w64 {r = at 2} {z = at 2} h refl i ∷ [])
+      ∙ are-all l long
+
+-- ---- the normal of a plane
+-- The determinant is the row of the first corner times the normal, whatever the fourth point is.
+pub side-by-normal : (p q r d : Point) → dot (row p d) (normalOf p q r) ≡ side p q r d
+side-by-normal p q r d =
+    let u = rowE (point 1) (point 0) in
+    let v = rowE (point 2) (point 0) in
+    ring (values (p ∷ q ∷ r ∷ d ∷ []))
+    (rowE (point 0) (point 3) 0 ⊠ minorE 1 2 u v ⊞ rowE (point 0) (point 3) 1 ⊠ minorE 2 0 u v ⊞ rowE (point 0) (point 3) 2 ⊠ minorE 0 1 u v)
+    (sideOf (point 0) (point 1) (point 2) (point 3)) tt refl
+
+sized-row : {a d : Point} → Sized limit a → Sized limit d → Sized differenceSize (row a d)
+sized-row s t = vector (exact (gap s t 0 .within)) (exact (gap s t 1 .within)) (exact (gap s t 2 .within)) .1
+
+pub sized-normal : {p q r : Point} → Sized limit p → Sized limit q → Sized limit r → Sized minorSize (normalOf p q r)
+sized-normal {p} {q} {r} a b c =
+    let u : Sized differenceSize (row q p) = sized-row b a in
+    let v : Sized differenceSize (row r p) = sized-row c a in
+    vector (exact (minor-read u v 1 2 .within)) (exact (minor-read u v 2 0 .within)) (exact (minor-read u v 0 1 .within)) .1
 
 -- ---- what the machine's tests of equality tell
 -- A test of two numbers by their bits is one of the whole numbers.

@@ -8,16 +8,19 @@ use native.Mathlib.Decide.{ℕ-discrete}
 use lib.ListN.{length, getD}
 use lib.IntN.{ℤ, natAbs}
 use Rattle.shape.specs.Points.{Point, coord, pointAt}
-use Rattle.shape.specs.SpaceTest.{Standing, beside, standings, standing, byStanding, placed, keptFirst, keptSecond, without, lastSigns}
+use Rattle.shape.specs.Signs.{row, sign, digit}
+use Rattle.shape.specs.SpaceTest.{level, Standing, beside, standings, standing, byStanding, placed, keptFirst, keptSecond, without, lastSigns}
 use Rattle.kernel.specs.Grid.{limit, Ready}
-use Rattle.kernel.specs.Vectors.{spatial, Sized}
+use Rattle.kernel.specs.Vectors.{spatial, Sized, minorSize, dot}
 use Rattle.kernel.specs.Planes.{PlaneAt, SizedTriangle}
-use Rattle.kernel.specs.Spaces.{SpaceAt, SizedSpace, ofSpace, ofSpaces, placedAs, toldStanding}
+use Rattle.kernel.specs.Spaces.{SpaceAt, SizedSpace, normalOf, IsNormal, normalIn, ofSpace, ofSpaces, placedAs, toldStanding}
 use Rattle.kernel.specs.declared.plane.PlaneTriangle.{PlaneTriangle}
+use Rattle.kernel.specs.declared.determinant.SpacePoint.{SpacePoint}
 use Rattle.kernel.specs.declared.space.SpaceTriangle.{SpaceTriangle}
 use Rattle.kernel.specs.declared.space.Standing.{Standing as StandingAnswer}
 use Rattle.kernel.proofs.GridLaws.{sized-point}
 use Rattle.kernel.proofs.PlaneLaws.{size-at}
+use Rattle.kernel.proofs.Readings.{side-by-normal, sized-normal}
 
 -- What is past the table of standings is beside.
 past : {A : Type 0} (l : List A) (d : A) (i : ℕ) → length l ≤ i → getD l i d ≡ d
@@ -54,6 +57,22 @@ module _ {a b c : Point} {t : SpaceTriangle} (at : SpaceAt a b c t) where
 -- The triangle of a list that passed its checks.
 pub sized-triangle : {l : List ℤ} {t : SpaceTriangle} → Ready 9 l → SpaceAt (pointAt 3 0 l) (pointAt 3 3 l) (pointAt 3 6 l) t → SizedSpace limit t
 sized-triangle ready at = space-size-at at (sized-point ready 3 0 refl) (sized-point ready 3 3 refl) (sized-point ready 3 6 refl)
+
+-- ---- normals
+-- The normal that is kept of a list is that of its triangle.
+pub normal-in : {l : List ℤ} {t : SpaceTriangle} {n : SpacePoint} → Ready 9 l → SpaceAt (pointAt 3 0 l) (pointAt 3 3 l) (pointAt 3 6 l) t →
+    spatial n ≡ normalIn l → IsNormal t n
+normal-in {l} ready at e = record {
+  is = e ∙ sym (space-at at normalOf);
+  small = subst (λ (v : Point). Sized minorSize v) (sym e)
+      (sized-normal (sized-point ready 3 0 refl) (sized-point ready 3 3 refl) (sized-point ready 3 6 refl));
+}
+
+-- The level over a plane, by its normal.
+pub level-by-normal : (t : SpaceTriangle) {n : SpacePoint} {r : ℕ} (d : Point) → IsNormal t n →
+    r ≡ digit (sign (dot (row (spatial (t .p)) d) (spatial n))) → r ≡ ofSpace level t d
+level-by-normal t d n e =
+    e ∙ ap (λ (z : ℤ). digit (sign z)) (ap (dot (row (spatial (t .p)) d)) (n .is) ∙ side-by-normal (spatial (t .p)) (spatial (t .q)) (spatial (t .r)) d)
 
 -- ---- a new order of the corners
 pub sized-placed : (turns : ℕ) (swap : Bool) {n : ℕ} {t u : SpaceTriangle} → u ≡ placedAs turns swap t → SizedSpace n t → SizedSpace n u

@@ -2,10 +2,14 @@
 -- (specs/SpaceTest.antt) on their corners.
 use mathlib.Core.Path.{_≡_}
 use mathlib.Core.Bool.{Bool}
+use mathlib.Core.List.{List}
 use Prim.Native.Nat.{ℕ}
-use Rattle.shape.specs.Points.{Point}
+use lib.IntN.{ℤ}
+use Rattle.shape.specs.Points.{Point, pointAt}
+use Rattle.shape.specs.Signs.{row}
 use Rattle.shape.specs.SpaceTest.{Standing, beside, within, alone, placed}
-use Rattle.kernel.specs.Vectors.{spatial, Sized}
+use Rattle.kernel.specs.Vectors.{spatial, Sized, minorSize, minors}
+use Rattle.kernel.specs.declared.determinant.SpacePoint.{SpacePoint}
 use Rattle.kernel.specs.declared.space.SpaceTriangle.{SpaceTriangle}
 use Rattle.kernel.specs.declared.space.Standing.{Standing as StandingAnswer}
 use Rattle.kernel.specs.declared.space.Standing.the-variants.{Beside, Within, Alone}
@@ -32,6 +36,19 @@ pub record SizedSpace (n : ℕ) (t : SpaceTriangle) : Type 0 where
 -- The corners turned so many times, and then the last two swapped or not.
 abbrev pub placedAs : ℕ → Bool → SpaceTriangle → SpaceTriangle
 placedAs turns swap t = placed turns swap (λ p q r. record { p = p; q = q; r = r }) (t .p) (t .q) (t .r)
+
+-- The normal of the plane of p, q, r: the minors of [p,q,r,X], which are the same for every X (document 000).
+abbrev pub normalOf : Point → Point → Point → Point
+normalOf p q r = minors (row q p) (row r p)
+
+-- The vector n is the normal of t.
+pub record IsNormal (t : SpaceTriangle) (n : SpacePoint) : Type 0 where
+  pub is : spatial n ≡ ofSpace normalOf t
+  pub small : Sized minorSize (spatial n)
+
+-- The normal of the triangle that fills a list of nine numbers.
+abbrev pub normalIn : List ℤ → Point
+normalIn numbers = normalOf (pointAt 3 0 numbers) (pointAt 3 3 numbers) (pointAt 3 6 numbers)
 
 -- A standing, as the code names it.
 abbrev pub toldStanding : StandingAnswer → Standing

@@ -5,9 +5,10 @@ ghost use Prim.Native.Nat.{_+_, _≤_, _<_};
 ghost use lib.IntN.{pos};
 ghost use lib.ListN.{length, getD};
 ghost use Rattle.shape.specs.Points.{pointAt, pointsAt};
-ghost use Rattle.shape.specs.Signs.{turn, side, row, bracket, sign};
+ghost use Rattle.shape.specs.Signs.{turn, side, row, bracket, sign, digit};
 ghost use Rattle.shape.specs.SpaceTest.{level};
 ghost use Rattle.kernel.specs.Grid.{limit, Ready};
+ghost use Rattle.kernel.specs.Spaces.{normalOf};
 ghost use Rattle.kernel.specs.Vectors.{signNumber, planar, spatial, Sized, differenceSize, minorSize, minors, dot};
 
 // A point of the plane, or a vector.
@@ -145,15 +146,37 @@ pub fn sign_of(z: i64) -> Sign
     }
 }
 
-// The level of d over the plane of a, b, c, by the sign of [a,b,c,d]: 0 for -1, 1 for 0, 2 for 1. The tests in space take every sign
-// from here.
-pub fn level_at(a: SpacePoint, b: SpacePoint, c: SpacePoint, d: SpacePoint) -> u32
-    requires { ⌜ Sized limit (spatial a) × Sized limit (spatial b) × Sized limit (spatial c) × Sized limit (spatial d) ⌝ }
-    ensures { λ r. ⌜ (r ≡ level (spatial a) (spatial b) (spatial c) (spatial d)) × (r ≤ 2) ⌝ }
+// The level that a side value tells, by its sign: 0 for -1, 1 for 0, 2 for 1. The tests in space take every sign from here.
+fn level_of(z: i64) -> u32
+    ensures { λ r. ⌜ (r ≡ digit (sign z)) × (r ≤ 2) ⌝ }
 {
-    match sign_of(side_at(a, b, c, d)) {
+    match sign_of(z) {
         Sign::Negative => 0,
         Sign::Zero => 1,
         Sign::Positive => 2,
     }
+}
+
+// The level of d over the plane of a, b, c, by the sign of [a,b,c,d].
+pub fn level_at(a: SpacePoint, b: SpacePoint, c: SpacePoint, d: SpacePoint) -> u32
+    requires { ⌜ Sized limit (spatial a) × Sized limit (spatial b) × Sized limit (spatial c) × Sized limit (spatial d) ⌝ }
+    ensures { λ r. ⌜ (r ≡ level (spatial a) (spatial b) (spatial c) (spatial d)) × (r ≤ 2) ⌝ }
+{
+    level_of(side_at(a, b, c, d))
+}
+
+// The normal of the plane of a, b, c.
+pub fn normal_at(a: SpacePoint, b: SpacePoint, c: SpacePoint) -> SpacePoint
+    requires { ⌜ Sized limit (spatial a) × Sized limit (spatial b) × Sized limit (spatial c) ⌝ }
+    ensures { λ r. ⌜ (spatial r ≡ normalOf (spatial a) (spatial b) (spatial c)) × Sized minorSize (spatial r) ⌝ }
+{
+    minors_of(row_of(b, a), row_of(c, a))
+}
+
+// The level of d over the plane through a that has this normal.
+pub fn level_over(a: SpacePoint, normal: SpacePoint, d: SpacePoint) -> u32
+    requires { ⌜ Sized limit (spatial a) × Sized minorSize (spatial normal) × Sized limit (spatial d) ⌝ }
+    ensures { λ r. ⌜ (r ≡ digit (sign (dot (row (spatial a) (spatial d)) (spatial normal)))) × (r ≤ 2) ⌝ }
+{
+    level_of(dot_of(row_of(a, d), normal))
 }

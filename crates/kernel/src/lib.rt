@@ -15,5 +15,7 @@ pub use kinds::Kind;
 pub use kinds::is_flat;
 pub use kinds::numbers_of;
 pub use meeting::flat_triangles_meet;
+pub use meeting::known_triangles_meet;
+pub use meeting::put_normal;
 pub use meeting::segment_meets_triangle;
 pub use meeting::triangles_meet;

@@ -1,13 +1,19 @@
 // Whether two shapes that passed their checks have a point in common, a list each. What is promised is the definition, so the crates
 // above know nothing of the tests.
+use crate::determinant::SpacePoint;
 use crate::determinant::space_point;
 use crate::plane::plane_triangle;
 use crate::plane::planes_meet;
+use crate::space::normal_of;
 use crate::space::segment_meets_space;
 use crate::space::space_triangle;
 use crate::space::spaces_meet;
-ghost use Rattle.kernel.specs.Grid.{Passed};
+ghost use mathlib.Core.Path.{_≡_};
+ghost use lib.ListN.{length};
+ghost use Rattle.kernel.specs.Grid.{Ready, Passed};
 ghost use Rattle.kernel.specs.Meeting.{Judges};
+ghost use Rattle.kernel.specs.Spaces.{normalIn};
+ghost use Rattle.kernel.specs.Vectors.{spatial};
 
 // Two triangles in the plane, six numbers each.
 pub fn flat_triangles_meet(first: &[i32], second: &[i32]) -> bool
@@ -34,5 +40,46 @@ pub fn triangles_meet(first: &[i32], second: &[i32]) -> bool
     requires { ⌜ Passed 3 3 (now first) × Passed 3 3 (now second) ⌝ }
     ensures { λ r. ⌜ Judges 3 3 3 (now (first .entry)) (now (second .entry)) r ⌝ }
 {
-    spaces_meet(space_triangle(first), space_triangle(second))
+    let t = space_triangle(first);
+    let u = space_triangle(second);
+    spaces_meet(t, normal_of(t), u, normal_of(u))
+}
+
+// The normal that fills a list of three numbers.
+fn normal_in(numbers: &[i64]) -> SpacePoint
+    requires { ⌜ length (now numbers) ≡ 3 ⌝ }
+    ensures { λ r. ⌜ spatial r ≡ now (numbers .entry) ⌝ }
+{
+    SpacePoint {
+        x: numbers[0],
+        y: numbers[1],
+        z: numbers[2],
+    }
+}
+
+// Writes the normal of a triangle, for those who ask of the same triangle often.
+pub fn put_normal(normal: &mut [i64], corners: &[i32])
+    requires { ⌜ (length (now normal) ≡ 3) × Ready 9 (now corners) ⌝ }
+    ensures { λ r. ⌜ now (normal .exit) ≡ normalIn (now (corners .entry)) ⌝ }
+{
+    let n = normal_of(space_triangle(corners));
+    let x = n.x;
+    let y = n.y;
+    let z = n.z;
+    normal[0] = x;
+    normal[1] = y;
+    normal[2] = z;
+}
+
+// Two triangles whose normals are known.
+pub fn known_triangles_meet(first: &[i32], m: &[i64], second: &[i32], n: &[i64]) -> bool
+    requires { ⌜ Passed 3 3 (now first) × Passed 3 3 (now second) × (now m ≡ normalIn (now first)) × (now n ≡ normalIn (now second)) ⌝ }
+    ensures { λ r. ⌜ Judges 3 3 3 (now (first .entry)) (now (second .entry)) r ⌝ }
+{
+    spaces_meet(
+        space_triangle(first),
+        normal_in(m),
+        space_triangle(second),
+        normal_in(n),
+    )
 }

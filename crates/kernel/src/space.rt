@@ -3,6 +3,8 @@
 use crate::determinant::PlanePoint;
 use crate::determinant::SpacePoint;
 use crate::determinant::level_at;
+use crate::determinant::level_over;
+use crate::determinant::normal_at;
 use crate::determinant::space_point;
 use crate::determinant::turn_at;
 use crate::plane::PlaneTriangle;
@@ -14,7 +16,7 @@ ghost use Rattle.shape.specs.SpaceTest.{pattern, standing, without, normalAt, a
 ghost use Rattle.kernel.specs.Grid.{limit, Ready};
 ghost use Rattle.kernel.specs.Vectors.{planar, spatial, Sized};
 ghost use Rattle.kernel.specs.Planes.{PlaneAt};
-ghost use Rattle.kernel.specs.Spaces.{SpaceAt, SizedSpace, placedAs, ofSpace, ofSpaces, toldStanding};
+ghost use Rattle.kernel.specs.Spaces.{SpaceAt, SizedSpace, IsNormal, placedAs, ofSpace, ofSpaces, toldStanding};
 
 // A triangle of space.
 pub struct SpaceTriangle {
@@ -45,14 +47,20 @@ pub fn space_triangle(numbers: &[i32]) -> SpaceTriangle
 
 // ---- the signs against a plane
 
-// The three signs of the corners of t against the plane of u, read as a pattern from 0 to 26.
-fn pattern_of(t: SpaceTriangle, u: SpaceTriangle) -> u32
-    requires { ⌜ SizedSpace limit t × SizedSpace limit u ⌝ }
+// The normal of a triangle's plane.
+pub fn normal_of(t: SpaceTriangle) -> SpacePoint
+    requires { ⌜ SizedSpace limit t ⌝ }
+    ensures { λ r. ⌜ IsNormal t r ⌝ }
+{
+    normal_at(t.p, t.q, t.r)
+}
+
+// The three signs of the corners of t against the plane of u, whose normal is n, read as a pattern from 0 to 26.
+fn pattern_of(t: SpaceTriangle, u: SpaceTriangle, n: SpacePoint) -> u32
+    requires { ⌜ SizedSpace limit t × SizedSpace limit u × IsNormal u n ⌝ }
     ensures { λ r. ⌜ r ≡ ofSpaces pattern t u ⌝ }
 {
-    9 * level_at(u.p, u.q, u.r, t.p)
-        + 3 * level_at(u.p, u.q, u.r, t.q)
-        + level_at(u.p, u.q, u.r, t.r)
+    9 * level_over(u.p, n, t.p) + 3 * level_over(u.p, n, t.q) + level_over(u.p, n, t.r)
 }
 
 // The standing that a pattern names. A digit is 0 for a corner below the plane, 1 on it, 2 above it, and the first corner's counts
@@ -125,7 +133,7 @@ fn dropped(k: u32, t: SpaceTriangle) -> PlaneTriangle
 }
 
 // Coordinate k of the normal of a triangle.
-fn normal_at(k: u32, t: SpaceTriangle) -> i64
+fn normal_along(k: u32, t: SpaceTriangle) -> i64
     requires { ⌜ SizedSpace limit t ⌝ }
     ensures { λ r. ⌜ r ≡ ofSpace (normalAt k) t ⌝ }
 {
@@ -138,13 +146,13 @@ pub fn axis_of(t: SpaceTriangle) -> u32
     requires { ⌜ SizedSpace limit t ⌝ }
     ensures { λ r. ⌜ r ≡ ofSpace axis t ⌝ }
 {
-    if normal_at(2, t) != 0 {
+    if normal_along(2, t) != 0 {
         return 2;
     }
-    if normal_at(1, t) != 0 {
+    if normal_along(1, t) != 0 {
         return 1;
     }
-    if normal_at(0, t) != 0 {
+    if normal_along(0, t) != 0 {
         return 0;
     }
     3
@@ -172,12 +180,12 @@ fn last_signs(t: SpaceTriangle, u: SpaceTriangle) -> bool
     level_at(t.p, t.r, u.r, u.p) != 2
 }
 
-// A corner of t is alone, as `turns` and `swap` tell: the standing of u, and the last signs.
-fn crossing(t: SpaceTriangle, u: SpaceTriangle, turns: u32, swap: bool) -> bool
-    requires { ⌜ SizedSpace limit t × SizedSpace limit u ⌝ }
+// A corner of t, whose normal is m, is alone, as `turns` and `swap` tell: the standing of u, and the last signs.
+fn crossing(t: SpaceTriangle, m: SpacePoint, u: SpaceTriangle, turns: u32, swap: bool) -> bool
+    requires { ⌜ SizedSpace limit t × SizedSpace limit u × IsNormal t m ⌝ }
     ensures { λ r. ⌜ r ≡ ofSpaces crossingTest t u turns swap ⌝ }
 {
-    match standing_of(pattern_of(u, t)) {
+    match standing_of(pattern_of(u, t, m)) {
         Standing::Beside => false,
         Standing::Within => meet_in_plane(u, t),
         Standing::Alone(other_turns, other_swap) => {
@@ -186,15 +194,15 @@ fn crossing(t: SpaceTriangle, u: SpaceTriangle, turns: u32, swap: bool) -> bool
     }
 }
 
-// Whether two triangles that are not flat have a point in common.
-pub fn spaces_meet(t: SpaceTriangle, u: SpaceTriangle) -> bool
-    requires { ⌜ SizedSpace limit t × SizedSpace limit u ⌝ }
+// Whether two triangles that are not flat, whose normals are m and n, have a point in common.
+pub fn spaces_meet(t: SpaceTriangle, m: SpacePoint, u: SpaceTriangle, n: SpacePoint) -> bool
+    requires { ⌜ SizedSpace limit t × SizedSpace limit u × IsNormal t m × IsNormal u n ⌝ }
     ensures { λ r. ⌜ r ≡ ofSpaces spaceTest t u ⌝ }
 {
-    match standing_of(pattern_of(t, u)) {
+    match standing_of(pattern_of(t, u, n)) {
         Standing::Beside => false,
         Standing::Within => meet_in_plane(t, u),
-        Standing::Alone(turns, swap) => crossing(t, u, turns, swap),
+        Standing::Alone(turns, swap) => crossing(t, m, u, turns, swap),
     }
 }
 

@@ -1,14 +1,13 @@
 -- Boxes: what the code reads of a list, the best of three numbers, and boxes that are apart, so that the triangles in them are. Assumes nothing.
 use mathlib.Core.Path.{_≡_, refl, sym, ap, subst, _∙_}
 use mathlib.Core.Bool.{Bool, true, false, not, cond}
-use mathlib.Core.List.{List, _++_, append-nil}
+use mathlib.Core.List.{List}
 use Prim.Native.Nat.{ℕ, zero, suc, _+_, _^_, _<_}
 use native.Mathlib.Omega.{arith}
 use borrow.Author.Needs.{sfits-of}
 use lib.Dec.{T}
 use lib.IntN.{ℤ, pos}
-use lib.ListN.{length, getD, drop-of-length-le}
-use lib.Seq.{sets, sets-eq}
+use lib.ListN.{getD}
 use lib.Signed.{ltZ, mag, _≤ℤ_, _<ℤ_, ltZ-yes, ltZ-no, ≤ℤ-refl, <ℤ-≤ℤ-trans}
 use mir.Syntax.{w32}
 use mir.Val.{toZ, ofZ, hbits}
@@ -89,13 +88,6 @@ module _ (R : ℤ → ℤ → Type 0) (wins : ℤ → ℤ → Bool) (reflexive :
       let two = better wins x y in
       let last = over-first two z in
       (transitive x two (better wins two z) (over-first x y) last, transitive y two (better wins two z) (over-second x y) last, over-second two z)
-
--- ---- a box stored number by number
-pub stored : (new old : List ℤ) → length old ≡ length new → sets old 0 new ≡ new
-stored new old e =
-    sets-eq new old 0 (omega arith)
-    ∙ ap (λ (rest : List ℤ). new ++ rest) (drop-of-length-le old {i = 0 + length new} (omega arith))
-    ∙ append-nil new
 
 -- ---- one box before the other
 pub before-read : (c : ℕ) (first second : List ℤ) → Fits (getD first (c + 3) (pos 0)) → Fits (getD second c (pos 0)) →

@@ -1,8 +1,10 @@
 -- Parts of a list, as code takes them (from p up to p + k), and a list with a part put back. Assumes nothing.
 use mathlib.Core.Path.{_≡_, refl, sym, ap, _∙_}
 use mathlib.Core.List.{List, [], _∷_, _++_}
-use Prim.Native.Nat.{ℕ, zero, suc, _+_, _-_, _≤_}
+use Prim.Native.Nat.{ℕ, zero, suc, _+_, _-_, _*_, _≤_, _<_}
 use native.Mathlib.Omega.{arith}
+use native.Mathlib.Nat.{mul-le-mul-left}
+use borrow.Author.Count.{below-more}
 use borrow.Rule.Slice.PartMut.{putMid, postOf, take-put}
 use lib.ListN.{length, take, drop, length-take, length-drop}
 use lib.Seq.{take-at, drop-at, take-take, length-take-le}
@@ -23,10 +25,18 @@ module _ {X : Type 0} where
   within-front (suc q) j (suc p) (x ∷ xs) h = within-front q j p xs (omega arith)
 
   -- ---- ys in the place of the n elements from p on: they stand there, and a part before them is as it was
-  pub put-here : (p k n : ℕ) (xs ys : List X) → p ≤ length xs → length ys ≡ k → take k (drop p (putMid p n xs ys)) ≡ ys
+  put-here : (p k n : ℕ) (xs ys : List X) → p ≤ length xs → length ys ≡ k → take k (drop p (putMid p n xs ys)) ≡ ys
   put-here p k n xs ys h e =
       ap (take k) (drop-at (take p xs) (ys ++ postOf p n xs) p (length-take-le p xs h)) ∙ take-at ys (postOf p n xs) k e
 
-  pub put-before : (q j p n : ℕ) (xs ys : List X) → q + j ≤ p → p ≤ length xs → take j (drop q (putMid p n xs ys)) ≡ take j (drop q xs)
+  put-before : (q j p n : ℕ) (xs ys : List X) → q + j ≤ p → p ≤ length xs → take j (drop q (putMid p n xs ys)) ≡ take j (drop q xs)
   put-before q j p n xs ys h g =
       sym (within-front q j p (putMid p n xs ys) h) ∙ ap (λ (l : List X). take j (drop q l)) (take-put p n xs ys g) ∙ within-front q j p xs h
+
+  -- Parts of k elements each, written one after the other: the first i are there, and so is the next.
+  pub parts-more : (k i n : ℕ) (xs new : List X) (f : ℕ → List X) → k * i ≤ length xs → length new ≡ k → new ≡ f i →
+      ((j : ℕ) → j < i → take k (drop (k * j) xs) ≡ f j) → (j : ℕ) → j < i + 1 → take k (drop (k * j) (putMid (k * i) n xs new)) ≡ f j
+  parts-more k i n xs new f inside long this earlier =
+      below-more (λ j. take k (drop (k * j) (putMid (k * i) n xs new)) ≡ f j) i
+      (λ j h. put-before (k * j) k (k * i) n xs new (omega (arith, mul-le-mul-left k h)) inside ∙ earlier j h)
+      (put-here (k * i) k n xs new inside long ∙ this)

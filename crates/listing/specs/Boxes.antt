@@ -1,5 +1,5 @@
--- The vocabulary of src/boxes.rt: the box of a triangle, six numbers, the least x, y and z of its corners and then the greatest; and a
--- list whose boxes are known.
+-- The vocabulary of src/boxes.rt: the box of a triangle, six numbers, the least x, y and z of its corners and then the greatest; its normal,
+-- three numbers; and a list of which both are known.
 use mathlib.Core.Path.{_≡_}
 use mathlib.Core.Bool.{Bool, true, cond}
 use mathlib.Core.List.{List, [], _∷_}
@@ -8,6 +8,7 @@ use lib.IntN.{ℤ, pos}
 use lib.ListN.{length, getD, take, drop}
 use lib.Signed.{ltZ}
 use Rattle.kernel.specs.Grid.{Passed}
+use Rattle.kernel.specs.Spaces.{normalIn}
 use Rattle.listing.specs.Rules.{triangles, nine}
 
 abbrev pub smaller : ℤ → ℤ → Bool
@@ -53,8 +54,25 @@ pub record Sound (numbers : List ℤ) : Type 0 where
   pub few : triangles numbers ≤ 1024
   pub passed : (i : ℕ) → i < triangles numbers → Passed 3 3 (nine i numbers)
 
--- Such a list, and the boxes of its triangles.
-pub record Prepared (numbers boxes : List ℤ) : Type 0 where
+-- ---- the normals of triangles
+-- The normal with index i.
+abbrev pub three : ℕ → List ℤ → List ℤ
+three i normals = take 3 (drop (3 * i) normals)
+
+-- The normals of all triangles of a list.
+abbrev pub Normals : List ℤ → List ℤ → Type 0
+Normals numbers normals = (i : ℕ) → i < triangles numbers → three i normals ≡ normalIn (nine i numbers)
+
+-- A triangle that passed the checks, and its box and normal.
+pub record Known (corners bounds plane : List ℤ) : Type 0 where
+  pub passed : Passed 3 3 corners
+  pub boxed : bounds ≡ boxOf corners
+  pub normal : plane ≡ normalIn corners
+
+-- A sound list, and the boxes and normals of its triangles.
+pub record Prepared (numbers boxes normals : List ℤ) : Type 0 where
   pub sound : Sound numbers
-  pub room : 6 * triangles numbers ≤ length boxes
+  pub room-of-boxes : 6 * triangles numbers ≤ length boxes
   pub boxed : Boxed numbers boxes
+  pub room-of-normals : 3 * triangles numbers ≤ length normals
+  pub normal : Normals numbers normals

@@ -1,10 +1,11 @@
-// The boxes of triangles, which tell of most pairs of a large bed that they are apart. A box is six numbers: the least x, y and z of the
-// corners, and then the greatest.
+// What is found out once of each triangle of a list, and not once of each pair. Its box, which tells of most pairs of a large bed that they are
+// apart: six numbers, the least x, y and z of the corners and then the greatest. And its normal, three numbers, which the pair test asks for.
+use kernel::put_normal;
 ghost use mathlib.Core.Path.{_≡_};
 ghost use Prim.Native.Nat.{_+_, _*_, _≤_, _<_};
 ghost use lib.ListN.{length};
 ghost use Rattle.listing.specs.Rules.{triangles};
-ghost use Rattle.listing.specs.Boxes.{smaller, larger, bestAt, boxOf, apartAlong, boxesApart, Boxed};
+ghost use Rattle.listing.specs.Boxes.{smaller, larger, bestAt, boxOf, apartAlong, boxesApart, Boxed, Sound, Normals};
 
 // The least coordinate c of the three corners in a list of nine numbers.
 fn least_at(c: usize, corners: &[i32]) -> i32
@@ -62,6 +63,19 @@ pub fn put_boxes(boxes: &mut [i32], numbers: &[i32])
     let mut i: usize = 0;
     while i < count {
         put_box(&mut boxes[6 * i..6 * i + 6], &numbers[9 * i..9 * i + 9]);
+        i += 1;
+    }
+}
+
+// Writes the normals of all triangles of a list.
+pub fn put_normals(normals: &mut [i64], numbers: &[i32])
+    requires { ⌜ Sound (now numbers) × (3 * triangles (now numbers) ≤ length (now normals)) ⌝ }
+    ensures { λ r. ⌜ Normals (now (numbers .entry)) (now (normals .exit)) ⌝ }
+{
+    let count = numbers.len() / 9;
+    let mut i: usize = 0;
+    while i < count {
+        put_normal(&mut normals[3 * i..3 * i + 3], &numbers[9 * i..9 * i + 9]);
         i += 1;
     }
 }

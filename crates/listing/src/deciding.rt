@@ -1,14 +1,14 @@
 // The verdicts on all pairs of two lists, each pair decided once and kept as a bit of a word.
 use crate::boxes::boxes_apart;
 use crate::boxes::put_boxes;
-use kernel::triangles_meet;
+use crate::boxes::put_normals;
+use kernel::known_triangles_meet;
 ghost use mathlib.Core.Path.{_≡_};
 ghost use Prim.Native.Nat.{ℕ, _+_, _*_, _≤_, _<_};
 ghost use lib.ListN.{length};
-ghost use Rattle.kernel.specs.Grid.{Passed};
 ghost use Rattle.kernel.specs.Meeting.{Judges};
 ghost use Rattle.listing.specs.Rules.{triangles, nine};
-ghost use Rattle.listing.specs.Boxes.{Sound, Prepared, boxOf};
+ghost use Rattle.listing.specs.Boxes.{Sound, Known, Prepared};
 ghost use Rattle.listing.specs.Words.{span, ones, onesBelow, Verdicts, VerdictsBelow};
 
 // A word of verdicts, and how many of them are yes.
@@ -17,27 +17,42 @@ pub struct Word {
     pub found: u64,
 }
 
-// Whether the triangle in nine numbers meets triangle j of the second list. Boxes come first.
-fn pair_meets(corners: &[i32], bounds: &[i32], second: &[i32], boxes: &[i32], j: usize) -> bool
-    requires { ⌜ Passed 3 3 (now corners) × (now bounds ≡ boxOf (now corners)) × Prepared (now second) (now boxes) × (j < triangles (now second)) ⌝ }
+// Whether the triangle in nine numbers, with this box and this normal, meets triangle j of the second list. Boxes come first.
+fn pair_meets(
+    corners: &[i32],
+    bounds: &[i32],
+    plane: &[i64],
+    second: &[i32],
+    boxes: &[i32],
+    normals: &[i64],
+    j: usize,
+) -> bool
+    requires { ⌜ Known (now corners) (now bounds) (now plane) × Prepared (now second) (now boxes) (now normals) × (j < triangles (now second)) ⌝ }
     ensures { λ r. ⌜ Judges 3 3 3 (now (corners .entry)) (nine j (now (second .entry))) r ⌝ }
 {
     if boxes_apart(bounds, &boxes[6 * j..6 * j + 6]) {
         return false;
     }
-    triangles_meet(corners, &second[9 * j..9 * j + 9])
+    known_triangles_meet(
+        corners,
+        plane,
+        &second[9 * j..9 * j + 9],
+        &normals[3 * j..3 * j + 3],
+    )
 }
 
 // The verdicts on the triangle and `count` triangles of the second list. The last is decided first, so that the first is the lowest bit.
 fn decide_word(
     corners: &[i32],
     bounds: &[i32],
+    plane: &[i64],
     second: &[i32],
     boxes: &[i32],
+    normals: &[i64],
     from: usize,
     count: usize,
 ) -> Word
-    requires { ⌜ Passed 3 3 (now corners) × (now bounds ≡ boxOf (now corners)) × Prepared (now second) (now boxes) × (count ≤ 64) × ((t : ℕ) → t < count → from + t < triangles (now second)) ⌝ }
+    requires { ⌜ Known (now corners) (now bounds) (now plane) × Prepared (now second) (now boxes) (now normals) × (count ≤ 64) × ((t : ℕ) → t < count → from + t < triangles (now second)) ⌝ }
     ensures { λ r. ⌜ Verdicts (now (corners .entry)) (now (second .entry)) from count (r .bits) × (r .found ≡ ones count (r .bits)) ⌝ }
 {
     let mut bits: u64 = 0;
@@ -45,7 +60,7 @@ fn decide_word(
     let mut t = count;
     while 0 < t {
         t -= 1;
-        let meet = pair_meets(corners, bounds, second, boxes, from + t) as u64;
+        let meet = pair_meets(corners, bounds, plane, second, boxes, normals, from + t) as u64;
         bits = 2 * bits + meet;
         found += meet;
     }
@@ -68,15 +83,17 @@ pub fn span_of(m: usize, from: usize) -> usize
     64
 }
 
-// All words of two lists whose boxes are known. Gives how many pairs meet.
+// All words of two lists whose boxes and normals are known. Gives how many pairs meet.
 fn decide_words(
     first: &[i32],
     bounds: &[i32],
+    planes: &[i64],
     second: &[i32],
     boxes: &[i32],
+    normals: &[i64],
     words: &mut [u64],
 ) -> u64
-    requires { ⌜ Prepared (now first) (now bounds) × Prepared (now second) (now boxes) × (triangles (now first) * 16 ≤ length (now words)) ⌝ }
+    requires { ⌜ Prepared (now first) (now bounds) (now planes) × Prepared (now second) (now boxes) (now normals) × (triangles (now first) * 16 ≤ length (now words)) ⌝ }
     ensures { λ r. ⌜ VerdictsBelow (now (first .entry)) (now (second .entry)) (now (words .exit)) (triangles (now (first .entry)) * 16) × (r ≡ onesBelow (triangles (now (second .entry))) (now (words .exit)) (triangles (now (first .entry)) * 16)) ⌝ }
 {
     let end = first.len() / 9 * 16;
@@ -89,8 +106,10 @@ fn decide_words(
         let word = decide_word(
             &first[9 * i..9 * i + 9],
             &bounds[6 * i..6 * i + 6],
+            &planes[3 * i..3 * i + 3],
             second,
             boxes,
+            normals,
             from,
             span_of(m, from),
         );
@@ -101,14 +120,26 @@ fn decide_words(
     found
 }
 
-// The verdicts on all pairs of two lists that passed the checks. Gives how many pairs meet. There are boxes for 1,024 triangles a list.
+// The verdicts on all pairs of two lists that passed the checks. Gives how many pairs meet. There are boxes and normals for 1,024 triangles a list.
 pub fn decide_lists(first: &[i32], second: &[i32], words: &mut [u64]) -> u64
     requires { ⌜ Sound (now first) × Sound (now second) × (triangles (now first) * 16 ≤ length (now words)) ⌝ }
     ensures { λ r. ⌜ VerdictsBelow (now (first .entry)) (now (second .entry)) (now (words .exit)) (triangles (now (first .entry)) * 16) × (r ≡ onesBelow (triangles (now (second .entry))) (now (words .exit)) (triangles (now (first .entry)) * 16)) ⌝ }
 {
     let mut bounds = [0i32; 6_144];
     put_boxes(&mut bounds[..], first);
+    let mut planes = [0i64; 3_072];
+    put_normals(&mut planes[..], first);
     let mut boxes = [0i32; 6_144];
     put_boxes(&mut boxes[..], second);
-    decide_words(first, &bounds[..], second, &boxes[..], words)
+    let mut normals = [0i64; 3_072];
+    put_normals(&mut normals[..], second);
+    decide_words(
+        first,
+        &bounds[..],
+        &planes[..],
+        second,
+        &boxes[..],
+        &normals[..],
+        words,
+    )
 }

@@ -1,63 +1,23 @@
--- `kernel::determinant::level_at` meets its contract: the digit is that of the sign of the determinant. Assumes nothing.
+-- `kernel::determinant::level_at` meets its contract: the level is that of the determinant. Assumes nothing.
+use mathlib.Core.Path.{ap, _∙_}
 use borrow.Author.Needs.{needs}
-use native.Mathlib.Omega.{arith}
-use mathlib.Core.Path.{sym, ap, _∙_}
+use lib.IntN.{ℤ}
 use mir.Syntax.{w64}
 use Rattle.algebra.proofs.Machine.{returned}
 use Rattle.shape.specs.Signs.{sign, digit}
-use Rattle.kernel.specs.Vectors.{signNumber}
-use Rattle.kernel.specs.declared.determinant.Sign.{Sign}
 use Rattle.kernel.proofs.determinant.level_at.Statement.{statement}
 use Rattle.kernel.proofs.determinant.level_at.Tie as tie
 
 side-at-requires : tie.Need-side-at-requires
 side-at-requires c κs = search needs
 
-sign-of-requires : tie.Need-sign-of-requires
-sign-of-requires c κs = search needs
-
-enum-told : tie.Need-enum-told
-enum-told c = search needs
-
-enum-told-2 : tie.Need-enum-told-2
-enum-told-2 c = search needs
-
-enum-told-3 : tie.Need-enum-told-3
-enum-told-3 c = search needs
+level-of-requires : tie.Need-level-of-requires
+level-of-requires c κs = search needs
 
 returns : tie.Need-returns
 returns c =
-    let p = c .before .before in (
-      sym (ap (λ (s : Sign). digit (signNumber s)) (c .enum-told .given .1))
-          ∙ ap digit (p .sign-of .ensures ∙ ap sign (returned w64 (p .before .side-at .ok) (p .before .side-at .ensures))),
-      omega arith,
-    )
-
-returns-2 : tie.Need-returns-2
-returns-2 c =
-    let p = c .before .before in (
-      sym (ap (λ (s : Sign). digit (signNumber s)) (c .enum-told2 .given .1))
-          ∙ ap digit (p .sign-of .ensures ∙ ap sign (returned w64 (p .before .side-at .ok) (p .before .side-at .ensures))),
-      omega arith,
-    )
-
-returns-3 : tie.Need-returns-3
-returns-3 c =
-    let p = c .before .before in (
-      sym (ap (λ (s : Sign). digit (signNumber s)) (c .enum-told3 .given .1))
-          ∙ ap digit (p .sign-of .ensures ∙ ap sign (returned w64 (p .before .side-at .ok) (p .before .side-at .ensures))),
-      omega arith,
-    )
+    let s = c .before .side-at in
+    (c .level-of .ensures .0 ∙ ap (λ (z : ℤ). digit (sign z)) (returned w64 (s .ok) (s .ensures)), c .level-of .ensures .1)
 
 pub level-at-spec : {M : Type 1} → statement M
-level-at-spec =
-    tie.close
-    (tie.spec
-    side-at-requires
-    sign-of-requires
-    enum-told
-    enum-told-2
-    enum-told-3
-    returns
-    returns-2
-    returns-3)
+level-at-spec = tie.close (tie.spec side-at-requires level-of-requires returns)

@@ -1,4 +1,4 @@
--- `kernel::meeting::triangles_meet` meets its contract: the test is right on shapes that are not flat. Assumes nothing.
+-- `kernel::meeting::triangles_meet` meets its contract: the test is right on triangles that are not flat. Assumes nothing.
 use mathlib.Core.Path.{sym, subst, _∙_}
 use mathlib.Core.Bool.{Bool}
 use Rattle.shape.specs.SpaceTest.{spaceTest}
@@ -14,19 +14,39 @@ space-triangle-requires c κs = c .pre .0 .ready
 space-triangle-requires-2 : tie.Need-space-triangle-requires-2
 space-triangle-requires-2 c κs = c .before .pre .1 .ready
 
+normal-of-requires : tie.Need-normal-of-requires
+normal-of-requires c κs = sized-triangle (c .before .before .pre .0 .ready) (c .before .space-triangle .ensures)
+
+normal-of-requires-2 : tie.Need-normal-of-requires-2
+normal-of-requires-2 c κs = sized-triangle (c .before .before .before .pre .1 .ready) (c .before .space-triangle2 .ensures)
+
 spaces-meet-requires : tie.Need-spaces-meet-requires
 spaces-meet-requires c κs =
-    let p = c .before .before in
-    (sized-triangle (p .pre .0 .ready) (c .before .space-triangle .ensures), sized-triangle (p .pre .1 .ready) (c .space-triangle2 .ensures))
+    let q = c .before .before in
+    let p = q .before .before in (
+      sized-triangle (p .pre .0 .ready) (q .before .space-triangle .ensures),
+      sized-triangle (p .pre .1 .ready) (q .space-triangle2 .ensures),
+      c .before .normal-of .ensures,
+      c .normal-of2 .ensures,
+    )
 
 returns : tie.Need-returns
 returns c =
-    let p = c .before .before .before in
-    let t = c .before .before .space-triangle .ensures in
-    let u = c .before .space-triangle2 .ensures in
+    let q = c .before .before .before in
+    let p = q .before .before in
+    let t = q .before .space-triangle .ensures in
+    let u = q .space-triangle2 .ensures in
     subst (λ (v : Bool). Judges 3 3 3 (p .args .first .now) (p .args .second .now) v)
     (sym (c .spaces-meet .ensures ∙ (λ i. spaceTest (t .at-p i) (t .at-q i) (t .at-r i) (u .at-p i) (u .at-q i) (u .at-r i))))
     (space-test _ _ _ _ _ _ (p .pre .0 .not-flat) (p .pre .1 .not-flat))
 
 pub triangles-meet-spec : {M : Type 1} → statement M
-triangles-meet-spec = tie.close (tie.spec space-triangle-requires space-triangle-requires-2 spaces-meet-requires returns)
+triangles-meet-spec =
+    tie.close
+    (tie.spec
+    space-triangle-requires
+    space-triangle-requires-2
+    normal-of-requires
+    normal-of-requires-2
+    spaces-meet-requires
+    returns)

@@ -6,35 +6,35 @@ use Rattle.kernel.proofs.Readings.{zero-kept, not-zero-kept, zero-test,
 use Rattle.kernel.proofs.space.axis_of.Statement.{statement}
 use Rattle.kernel.proofs.space.axis_of.Tie as tie
 
-normal-at-requires : tie.Need-normal-at-requires
-normal-at-requires c κs = search needs
+normal-along-requires : tie.Need-normal-along-requires
+normal-along-requires c κs = search needs
 
 returns : tie.Need-returns
 returns c =
-    let n = c .before .normal-at in
+    let n = c .before .normal-along in
     if-left _ _ (sym (not-zero-test _ (not-zero-kept (n .ok) (n .ensures) (c .if1 .taken)))) refl refl
 
-normal-at-requires-2 : tie.Need-normal-at-requires-2
-normal-at-requires-2 c κs = search needs
+normal-along-requires-2 : tie.Need-normal-along-requires-2
+normal-along-requires-2 c κs = search needs
 
 returns-2 : tie.Need-returns-2
 returns-2 c =
     let t1 = c .before .before in
-    let n1 = t1 .before .normal-at in
-    let n2 = c .before .normal-at2 in
+    let n1 = t1 .before .normal-along in
+    let n2 = c .before .normal-along2 in
     if-taken _ _ (sym (zero-test (zero-kept (n1 .ok) (n1 .ensures) (t1 .if1 .left)))) refl
     (if-left _ _ (sym (not-zero-test _ (not-zero-kept (n2 .ok) (n2 .ensures) (c .if2 .taken)))) refl refl)
 
-normal-at-requires-3 : tie.Need-normal-at-requires-3
-normal-at-requires-3 c κs = search needs
+normal-along-requires-3 : tie.Need-normal-along-requires-3
+normal-along-requires-3 c κs = search needs
 
 returns-3 : tie.Need-returns-3
 returns-3 c =
     let t2 = c .before .before in
     let t1 = t2 .before .before in
-    let n1 = t1 .before .normal-at in
-    let n2 = t2 .before .normal-at2 in
-    let n3 = c .before .normal-at3 in
+    let n1 = t1 .before .normal-along in
+    let n2 = t2 .before .normal-along2 in
+    let n3 = c .before .normal-along3 in
     if-taken _ _ (sym (zero-test (zero-kept (n1 .ok) (n1 .ensures) (t1 .if1 .left)))) refl
     (if-taken _ _ (sym (zero-test (zero-kept (n2 .ok) (n2 .ensures) (t2 .if2 .left)))) refl
     (if-left _ _ (sym (not-zero-test _ (not-zero-kept (n3 .ok) (n3 .ensures) (c .if3 .taken)))) refl refl))
@@ -43,9 +43,9 @@ returns-4 : tie.Need-returns-4
 returns-4 c =
     let t2 = c .before .before in
     let t1 = t2 .before .before in
-    let n1 = t1 .before .normal-at in
-    let n2 = t2 .before .normal-at2 in
-    let n3 = c .before .normal-at3 in
+    let n1 = t1 .before .normal-along in
+    let n2 = t2 .before .normal-along2 in
+    let n3 = c .before .normal-along3 in
     if-taken _ _ (sym (zero-test (zero-kept (n1 .ok) (n1 .ensures) (t1 .if1 .left)))) refl
     (if-taken _ _ (sym (zero-test (zero-kept (n2 .ok) (n2 .ensures) (t2 .if2 .left)))) refl
     (if-taken _ _ (sym (zero-test (zero-kept (n3 .ok) (n3 .ensures) (c .if3 .left)))) refl refl))
@@ -54,10 +54,10 @@ pub axis-of-spec : {M : Type 1} → statement M
 axis-of-spec =
     tie.close
     (tie.spec
-    normal-at-requires
+    normal-along-requires
     returns
-    normal-at-requires-2
+    normal-along-requires-2
     returns-2
-    normal-at-requires-3
+    normal-along-requires-3
     returns-3
     returns-4)

@@ -4,7 +4,7 @@ use mathlib.Core.List.{[], _∷_}
 use borrow.Author.Needs.{needs}
 use mir.Syntax.{w32}
 use Rattle.algebra.proofs.Machine.{returned}
-use Rattle.listing.proofs.BoxLaws.{stored}
+use Rattle.kernel.proofs.Readings.{all-stored}
 use Rattle.listing.proofs.boxes.put_box.Statement.{statement}
 use Rattle.listing.proofs.boxes.put_box.Tie as tie
 
@@ -56,7 +56,7 @@ returns c =
     let l2 = c .before .before .before .before .least-at2 in
     let l1 = c .before .before .before .before .before .least-at in
     let p = c .before .before .before .before .before .before in
-    stored (_ ∷ _ ∷ _ ∷ _ ∷ _ ∷ _ ∷ []) (p .args .bounds .now) (p .pre .0)
+    all-stored (_ ∷ _ ∷ _ ∷ _ ∷ _ ∷ _ ∷ []) (p .args .bounds .now) (p .pre .0)
     ∙ (λ i. returned w32 (l1 .ok) (l1 .ensures) i ∷ returned w32 (l2 .ok) (l2 .ensures) i ∷ returned w32 (l3 .ok) (l3 .ensures) i
     ∷ returned w32 (c1 .ok) (c1 .ensures) i ∷ returned w32 (c2 .ok) (c2 .ensures) i ∷ returned w32 (c3 .ok) (c3 .ensures) i ∷ [])
 

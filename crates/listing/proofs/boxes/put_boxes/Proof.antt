@@ -3,12 +3,12 @@ use mathlib.Core.Path.{_≡_, refl, sym, ap, _∙_}
 use Prim.Native.Nat.{ℕ, _+_, _-_, _*_, _<_, _≤_}
 use native.Mathlib.Omega.{arith}
 use borrow.Author.Needs.{needs}
-use borrow.Author.Count.{below-none, below-more}
-use borrow.Rule.Slice.PartMut.{putMid, same-len-mid}
+use borrow.Author.Count.{below-none}
+use borrow.Rule.Slice.PartMut.{same-len-mid}
 use lib.ListN.{length, take, drop}
 use Rattle.listing.specs.Boxes.{boxOf, six}
 use Rattle.listing.specs.Rules.{nine}
-use Rattle.listing.proofs.Parts.{length-part, part, put-here, put-before}
+use Rattle.listing.proofs.Parts.{length-part, part, parts-more}
 use Rattle.listing.proofs.boxes.put_boxes.Statement.{statement}
 use Rattle.listing.proofs.boxes.put_boxes.Tie as tie
 
@@ -86,15 +86,13 @@ loop-again c =
     let boxes = p .loop .boxes in
     let numbers = p .before .args .numbers .now in
     let new = c .before .put-box .last .0 in
-    let after = putMid (6 * i) (6 * i + 6 - 6 * i) boxes new in
+    let n = 6 * i + 6 - 6 * i in
     let room : 6 * i + 6 ≤ length boxes = omega arith in
     let is-box : new ≡ boxOf (nine i numbers) = c .before .put-box .ensures ∙ ap boxOf (part (9 * i) 9 numbers) in
     let long : length new ≡ 6 = ap length is-box in (
       omega arith,
-      same-len-mid (6 * i) (6 * i + 6 - 6 * i) boxes new (long ∙ sym (ap length (part (6 * i) 6 boxes) ∙ length-part (6 * i) 6 boxes room)) ∙ p .loop .inv .1,
-      below-more (λ k. six k after ≡ boxOf (nine k numbers)) i
-          (λ k h. put-before (6 * k) 6 (6 * i) (6 * i + 6 - 6 * i) boxes new (omega arith) (omega arith) ∙ p .loop .inv .2 k h)
-          (put-here (6 * i) 6 (6 * i + 6 - 6 * i) boxes new (omega arith) long ∙ is-box),
+      same-len-mid (6 * i) n boxes new (long ∙ sym (ap length (part (6 * i) 6 boxes) ∙ length-part (6 * i) 6 boxes room)) ∙ p .loop .inv .1,
+      parts-more 6 i n boxes new (λ k. boxOf (nine k numbers)) (omega arith) long is-box (p .loop .inv .2),
     )
 
 same-length : tie.Need-same-length Inv-loop μ-loop

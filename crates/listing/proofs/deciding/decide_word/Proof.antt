@@ -24,11 +24,11 @@ one-at-most true = omega arith
 one-at-most false = omega arith
 
 abbrev Inv-loop : tie.InvT-loop
-Inv-loop corners bounds second boxes from count bits₀ found₀ t₀ bits found t =
+Inv-loop corners bounds plane second boxes normals from count bits₀ found₀ t₀ bits found t =
     (t ≤ count) × Verdicts corners second (from + t) (count - t) bits × (found ≡ ones (count - t) bits)
 
 abbrev μ-loop : tie.MeasureT-loop
-μ-loop corners bounds second boxes from count bits₀ found₀ t₀ bits found t = t
+μ-loop corners bounds plane second boxes normals from count bits₀ found₀ t₀ bits found t = t
 
 loop-holds : tie.Need-loop-holds Inv-loop μ-loop
 loop-holds c =
@@ -43,13 +43,13 @@ add-pair-meets : tie.Need-add-pair-meets Inv-loop μ-loop
 add-pair-meets c =
     let p = c .before .before in
     let t = c .before .loop .t in
-    omega (arith, p .pre .4 (t - 1) (omega (arith, c .loop-test .taken, c .before .loop .inv .0)), p .pre .2 .sound .few)
+    omega (arith, p .pre .3 (t - 1) (omega (arith, c .loop-test .taken, c .before .loop .inv .0)), p .pre .1 .sound .few)
 
 pair-meets-requires : tie.Need-pair-meets-requires Inv-loop μ-loop
 pair-meets-requires c κs =
     let p = c .before .before in
     let t = c .before .loop .t in
-    (p .pre .0, p .pre .1, p .pre .2, p .pre .4 (t - 1) (omega (arith, c .loop-test .taken, c .before .loop .inv .0)))
+    (p .pre .0, p .pre .1, p .pre .3 (t - 1) (omega (arith, c .loop-test .taken, c .before .loop .inv .0)))
 
 cast-meet : tie.Need-cast-meet Inv-loop μ-loop
 cast-meet c = search needs
@@ -58,19 +58,19 @@ mul-bits : tie.Need-mul-bits Inv-loop μ-loop
 mul-bits c =
     let l = c .before .before .loop in
     let p = c .before .before .before in
-    omega (arith, word-fits (p .args .count) (l .t) (l .bits) false (c .before .loop-test .taken) (l .inv .0) (p .pre .3) (l .inv .1 .small))
+    omega (arith, word-fits (p .args .count) (l .t) (l .bits) false (c .before .loop-test .taken) (l .inv .0) (p .pre .2) (l .inv .1 .small))
 
 add-bits : tie.Need-add-bits Inv-loop μ-loop
 add-bits c =
     let l = c .before .before .loop in
     let p = c .before .before .before in
-    omega (arith, word-fits (p .args .count) (l .t) (l .bits) (c .pair-meets .result) (c .before .loop-test .taken) (l .inv .0) (p .pre .3) (l .inv .1 .small))
+    omega (arith, word-fits (p .args .count) (l .t) (l .bits) (c .pair-meets .result) (c .before .loop-test .taken) (l .inv .0) (p .pre .2) (l .inv .1 .small))
 
 add-found : tie.Need-add-found Inv-loop μ-loop
 add-found c =
     let l = c .before .before .loop in
     let p = c .before .before .before in
-    omega (arith, l .inv .2, few-ones (p .args .count - l .t) (l .bits), p .pre .3, one-at-most (c .pair-meets .result))
+    omega (arith, l .inv .2, few-ones (p .args .count - l .t) (l .bits), p .pre .2, one-at-most (c .pair-meets .result))
 
 loop-less : tie.Need-loop-less Inv-loop μ-loop
 loop-less c = search needs

@@ -1,12 +1,13 @@
 -- `listing::deciding::decide_words` meets its contract: the words before k are kept, and the next is that of its triangle. Assumes nothing.
 use mathlib.Core.Path.{_≡_, refl, sym, ap, ap₂, subst, _∙_}
 use mathlib.Core.List.{List}
-use Prim.Native.Nat.{ℕ, suc, _+_, _-_, _*_, _/_, _%_, _<_, _≤_}
+use Prim.Native.Nat.{ℕ, _+_, _-_, _*_, _/_, _<_, _≤_}
 use native.Mathlib.Omega.{arith}
 use borrow.Author.Needs.{needs}
 use lib.IntN.{ℤ}
-use lib.ListN.{length, set, length-set}
+use lib.ListN.{length, length-set}
 use Rattle.kernel.specs.Grid.{Passed}
+use Rattle.kernel.specs.Spaces.{normalIn}
 use Rattle.listing.specs.Boxes.{boxOf}
 use Rattle.listing.specs.Rules.{triangles, nine}
 use Rattle.listing.specs.Words.{Verdicts, VerdictsBelow, onesBelow, ones, span, firstOf}
@@ -16,11 +17,11 @@ use Rattle.listing.proofs.deciding.decide_words.Statement.{statement}
 use Rattle.listing.proofs.deciding.decide_words.Tie as tie
 
 abbrev Inv-loop : tie.InvT-loop
-Inv-loop first bounds second boxes words₀ end m found₀ k₀ words found k =
+Inv-loop first bounds planes second boxes normals words₀ end m found₀ k₀ words found k =
     (k ≤ end) × (length words ≡ length words₀) × VerdictsBelow first second words k × (found ≡ onesBelow (triangles second) words k)
 
 abbrev μ-loop : tie.MeasureT-loop
-μ-loop first bounds second boxes words₀ end m found₀ k₀ words found k = end - k
+μ-loop first bounds planes second boxes normals words₀ end m found₀ k₀ words found k = end - k
 
 mul-end : tie.Need-mul-end Inv-loop μ-loop
 mul-end c = search needs
@@ -73,19 +74,43 @@ part-decide-word-start-2 c = search needs
 part-decide-word-end-2 : tie.Need-part-decide-word-end-2 Inv-loop μ-loop
 part-decide-word-end-2 c = search needs
 
+mul-decide-word-7 : tie.Need-mul-decide-word-7 Inv-loop μ-loop
+mul-decide-word-7 c = search needs
+
+mul-decide-word-8 : tie.Need-mul-decide-word-8 Inv-loop μ-loop
+mul-decide-word-8 c = search needs
+
+add-decide-word-3 : tie.Need-add-decide-word-3 Inv-loop μ-loop
+add-decide-word-3 c = search needs
+
+mul-decide-word-9 : tie.Need-mul-decide-word-9 Inv-loop μ-loop
+mul-decide-word-9 c = search needs
+
+sub-decide-word-3 : tie.Need-sub-decide-word-3 Inv-loop μ-loop
+sub-decide-word-3 c = search needs
+
+part-decide-word-start-3 : tie.Need-part-decide-word-start-3 Inv-loop μ-loop
+part-decide-word-start-3 c = search needs
+
+part-decide-word-end-3 : tie.Need-part-decide-word-end-3 Inv-loop μ-loop
+part-decide-word-end-3 c = search needs
+
 span-of-requires : tie.Need-span-of-requires Inv-loop μ-loop
 span-of-requires c κs = search needs
 
 decide-word-requires : tie.Need-decide-word-requires Inv-loop μ-loop
 decide-word-requires c κs =
-    let q = c .before .before .before in
+    let q = c .before .before .before .before in
     let p = q .before .before .before in
     let first = p .args .first .now in
     let i = q .before .loop .k / 16 in
     let inside : i < triangles first = omega (arith, q .loop-test .taken) in
     let nine-is = part (9 * i) 9 first in (
-      subst (λ (l : List ℤ). Passed 3 3 l) (sym nine-is) (p .pre .0 .sound .passed i inside),
-      part (6 * i) 6 (p .args .bounds .now) ∙ p .pre .0 .boxed i inside ∙ ap boxOf (sym nine-is),
+      record {
+        passed = subst (λ (l : List ℤ). Passed 3 3 l) (sym nine-is) (p .pre .0 .sound .passed i inside);
+        boxed = part (6 * i) 6 (p .args .bounds .now) ∙ p .pre .0 .boxed i inside ∙ ap boxOf (sym nine-is);
+        normal = part (3 * i) 3 (p .args .planes .now) ∙ p .pre .0 .normal i inside ∙ ap normalIn (sym nine-is);
+      },
       p .pre .1,
       omega (arith, c .span-of .ensures),
       λ t h. omega (arith, c .span-of .ensures, h),
@@ -99,8 +124,8 @@ slice-write-words c = search needs
 
 add-found : tie.Need-add-found Inv-loop μ-loop
 add-found c =
-    let l = c .before .before .before .before .before .before .loop in
-    let p = c .before .before .before .before .before .before .before .before in
+    let l = c .before .before .before .before .before .before .before .loop in
+    let p = c .before .before .before .before .before .before .before .before .before in
     let word = c .before .decide-word in
     omega (
       arith,
@@ -117,20 +142,21 @@ add-k : tie.Need-add-k Inv-loop μ-loop
 add-k c = search needs
 
 loop-less : tie.Need-loop-less Inv-loop μ-loop
-loop-less c = search needs
+loop-less c = omega (arith, c .before .before .before .before .before .before .loop-test .taken)
 
 loop-again : tie.Need-loop-again Inv-loop μ-loop
 loop-again c =
-    let l = c .before .before .before .before .before .before .loop in
-    let p = c .before .before .before .before .before .before .before .before in
+    let l = c .before .before .before .before .before .before .before .loop in
+    let p = c .before .before .before .before .before .before .before .before .before in
     let a = p .args in
     let k = l .k in
     let word = c .before .decide-word in
     let size = c .before .before .span-of .ensures in
-    let inside : k < length (l .words) = omega (arith, l .inv .1, p .pre .2, c .before .before .before .before .before .loop-test .taken) in
+    let more = c .before .before .before .before .before .before .loop-test .taken in
+    let inside : k < length (l .words) = omega (arith, l .inv .1, p .pre .2, more) in
     let this : Verdicts (nine (k / 16) (a .first .now)) (a .second .now) (firstOf k) (span (triangles (a .second .now)) (firstOf k)) (word .result .bits) =
     rw (← (part (9 * (k / 16)) 9 (a .first .now)), ← size) (word .ensures .0) in (
-      omega (arith, c .before .before .before .before .before .loop-test .taken),
+      omega (arith, more),
       length-set (l .words) k (word .result .bits) ∙ l .inv .1,
       verdicts-stored (triangles (a .second .now)) (l .words) k (word .result .bits) (a .first .now) (a .second .now) inside (l .inv .2) this,
       ap₂ _+_ (l .inv .3) (word .ensures .1 ∙ ap (λ (n : ℕ). ones n (word .result .bits)) size)
@@ -170,6 +196,13 @@ decide-words-spec =
     sub-decide-word-2
     part-decide-word-start-2
     part-decide-word-end-2
+    mul-decide-word-7
+    mul-decide-word-8
+    add-decide-word-3
+    mul-decide-word-9
+    sub-decide-word-3
+    part-decide-word-start-3
+    part-decide-word-end-3
     span-of-requires
     decide-word-requires
     mul-words

@@ -1,5 +1,4 @@
--- `listing::deciding::pair_meets` meets its contract: boxes that are apart hold triangles that are, and the pair test decides the rest.
--- Assumes nothing.
+-- `listing::deciding::pair_meets` meets its contract: boxes that are apart hold triangles that are, and the pair test decides the rest. Assumes nothing.
 use mathlib.Core.Path.{_≡_, sym, ap, subst, _∙_}
 use mathlib.Core.List.{List}
 use Prim.Native.Nat.{_*_}
@@ -10,6 +9,7 @@ use lib.ListN.{length}
 use Rattle.shape.proofs.VerdictLaws.{says-no}
 use Rattle.kernel.specs.Grid.{Passed}
 use Rattle.kernel.specs.Meeting.{Judges}
+use Rattle.kernel.specs.Spaces.{normalIn}
 use Rattle.listing.specs.Boxes.{boxesApart}
 use Rattle.listing.specs.Rules.{nine}
 use Rattle.listing.proofs.BoxLaws.{boxes-apart}
@@ -41,49 +41,77 @@ part-boxes-apart-end c = search needs
 boxes-apart-requires : tie.Need-boxes-apart-requires
 boxes-apart-requires c κs =
     let p = c .before in
-    let a = p .args in
-    (ap length (p .pre .1), ap length (part (6 * a .j) 6 (a .boxes .now)) ∙ length-part (6 * a .j) 6 (a .boxes .now) (omega (arith, p .pre .2 .room)))
+    let a = p .args in (
+      ap length (p .pre .0 .boxed),
+      ap length (part (6 * a .j) 6 (a .boxes .now)) ∙ length-part (6 * a .j) 6 (a .boxes .now) (omega (arith, p .pre .1 .room-of-boxes)),
+    )
 
 returns : tie.Need-returns
 returns c =
     let q = c .before in
     let p = q .before .before in
     let a = p .args in
-    let box = part (6 * a .j) 6 (a .boxes .now) ∙ p .pre .2 .boxed (a .j) (p .pre .3) in
+    let box = part (6 * a .j) 6 (a .boxes .now) ∙ p .pre .1 .boxed (a .j) (p .pre .2) in
     says-no (boxes-apart (a .corners .now) (nine (a .j) (a .second .now))
-    (sym (q .boxes-apart .ensures ∙ (λ i. boxesApart (p .pre .1 i) (box i))) ∙ c .if1 .taken))
+    (sym (q .boxes-apart .ensures ∙ (λ i. boxesApart (p .pre .0 .boxed i) (box i))) ∙ c .if1 .taken))
 
-mul-triangles-meet : tie.Need-mul-triangles-meet
-mul-triangles-meet c = search needs
+mul-known-triangles-meet : tie.Need-mul-known-triangles-meet
+mul-known-triangles-meet c = search needs
 
-mul-triangles-meet-2 : tie.Need-mul-triangles-meet-2
-mul-triangles-meet-2 c = search needs
+mul-known-triangles-meet-2 : tie.Need-mul-known-triangles-meet-2
+mul-known-triangles-meet-2 c = search needs
 
-add-triangles-meet : tie.Need-add-triangles-meet
-add-triangles-meet c = search needs
+add-known-triangles-meet : tie.Need-add-known-triangles-meet
+add-known-triangles-meet c = search needs
 
-mul-triangles-meet-3 : tie.Need-mul-triangles-meet-3
-mul-triangles-meet-3 c = search needs
+mul-known-triangles-meet-3 : tie.Need-mul-known-triangles-meet-3
+mul-known-triangles-meet-3 c = search needs
 
-sub-triangles-meet : tie.Need-sub-triangles-meet
-sub-triangles-meet c = search needs
+sub-known-triangles-meet : tie.Need-sub-known-triangles-meet
+sub-known-triangles-meet c = search needs
 
-part-triangles-meet-start : tie.Need-part-triangles-meet-start
-part-triangles-meet-start c = search needs
+part-known-triangles-meet-start : tie.Need-part-known-triangles-meet-start
+part-known-triangles-meet-start c = search needs
 
-part-triangles-meet-end : tie.Need-part-triangles-meet-end
-part-triangles-meet-end c = search needs
+part-known-triangles-meet-end : tie.Need-part-known-triangles-meet-end
+part-known-triangles-meet-end c = search needs
 
-triangles-meet-requires : tie.Need-triangles-meet-requires
-triangles-meet-requires c κs =
-    let p = c .before .before .before .before in
+mul-known-triangles-meet-4 : tie.Need-mul-known-triangles-meet-4
+mul-known-triangles-meet-4 c = search needs
+
+mul-known-triangles-meet-5 : tie.Need-mul-known-triangles-meet-5
+mul-known-triangles-meet-5 c = search needs
+
+add-known-triangles-meet-2 : tie.Need-add-known-triangles-meet-2
+add-known-triangles-meet-2 c = search needs
+
+mul-known-triangles-meet-6 : tie.Need-mul-known-triangles-meet-6
+mul-known-triangles-meet-6 c = search needs
+
+sub-known-triangles-meet-2 : tie.Need-sub-known-triangles-meet-2
+sub-known-triangles-meet-2 c = search needs
+
+part-known-triangles-meet-start-2 : tie.Need-part-known-triangles-meet-start-2
+part-known-triangles-meet-start-2 c = search needs
+
+part-known-triangles-meet-end-2 : tie.Need-part-known-triangles-meet-end-2
+part-known-triangles-meet-end-2 c = search needs
+
+known-triangles-meet-requires : tie.Need-known-triangles-meet-requires
+known-triangles-meet-requires c κs =
+    let p = c .before .before .before .before .before in
     let a = p .args in
-    (p .pre .0, subst (λ (l : List ℤ). Passed 3 3 l) (sym (part (9 * a .j) 9 (a .second .now))) (p .pre .2 .sound .passed (a .j) (p .pre .3)))
+    let nine-is = part (9 * a .j) 9 (a .second .now) in (
+      p .pre .0 .passed,
+      subst (λ (l : List ℤ). Passed 3 3 l) (sym nine-is) (p .pre .1 .sound .passed (a .j) (p .pre .2)),
+      p .pre .0 .normal,
+      part (3 * a .j) 3 (a .normals .now) ∙ p .pre .1 .normal (a .j) (p .pre .2) ∙ ap normalIn (sym nine-is),
+    )
 
 returns-2 : tie.Need-returns-2
 returns-2 c =
-    let a = c .before .before .before .before .before .args in
-    subst (λ (l : List ℤ). Judges 3 3 3 (a .corners .now) l (c .triangles-meet .result)) (part (9 * a .j) 9 (a .second .now)) (c .triangles-meet .ensures)
+    let a = c .before .before .before .before .before .before .args in
+    subst (λ (l : List ℤ). Judges 3 3 3 (a .corners .now) l (c .known-triangles-meet .result)) (part (9 * a .j) 9 (a .second .now)) (c .known-triangles-meet .ensures)
 
 pub pair-meets-spec : {M : Type 1} → statement M
 pair-meets-spec =
@@ -98,12 +126,19 @@ pair-meets-spec =
     part-boxes-apart-end
     boxes-apart-requires
     returns
-    mul-triangles-meet
-    mul-triangles-meet-2
-    add-triangles-meet
-    mul-triangles-meet-3
-    sub-triangles-meet
-    part-triangles-meet-start
-    part-triangles-meet-end
-    triangles-meet-requires
+    mul-known-triangles-meet
+    mul-known-triangles-meet-2
+    add-known-triangles-meet
+    mul-known-triangles-meet-3
+    sub-known-triangles-meet
+    part-known-triangles-meet-start
+    part-known-triangles-meet-end
+    mul-known-triangles-meet-4
+    mul-known-triangles-meet-5
+    add-known-triangles-meet-2
+    mul-known-triangles-meet-6
+    sub-known-triangles-meet-2
+    part-known-triangles-meet-start-2
+    part-known-triangles-meet-end-2
+    known-triangles-meet-requires
     returns-2)

@@ -1,12 +1,12 @@
--- `kernel::space::normal_at` meets its contract: the turn of the corners without that coordinate. Assumes nothing.
+-- `kernel::space::normal_along` meets its contract: the turn of the corners without that coordinate. Assumes nothing.
 use borrow.Author.Needs.{needs}
 use mathlib.Core.Path.{_∙_}
 use mir.Syntax.{w64}
 use Rattle.algebra.proofs.Machine.{returned}
 use Rattle.shape.specs.Signs.{turn}
 use Rattle.kernel.proofs.SpaceLaws.{sized-dropped}
-use Rattle.kernel.proofs.space.normal_at.Statement.{statement}
-use Rattle.kernel.proofs.space.normal_at.Tie as tie
+use Rattle.kernel.proofs.space.normal_along.Statement.{statement}
+use Rattle.kernel.proofs.space.normal_along.Tie as tie
 
 dropped-requires : tie.Need-dropped-requires
 dropped-requires c κs = search needs
@@ -21,5 +21,5 @@ returns c =
     let at = c .before .dropped .ensures in
     returned w64 (c .turn-at .ok) (c .turn-at .ensures ∙ (λ i. turn (at .at-p i) (at .at-q i) (at .at-r i)))
 
-pub normal-at-spec : {M : Type 1} → statement M
-normal-at-spec = tie.close (tie.spec dropped-requires turn-at-requires returns)
+pub normal-along-spec : {M : Type 1} → statement M
+normal-along-spec = tie.close (tie.spec dropped-requires turn-at-requires returns)

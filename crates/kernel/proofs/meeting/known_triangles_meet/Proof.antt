@@ -1,0 +1,55 @@
+-- `kernel::meeting::known_triangles_meet` meets its contract: the test is right on triangles that are not flat. Assumes nothing.
+use mathlib.Core.Path.{sym, ap, subst, _∙_}
+use mathlib.Core.Bool.{Bool}
+use lib.ListN.{length}
+use Rattle.shape.specs.SpaceTest.{spaceTest}
+use Rattle.shape.proofs.SpaceTest.{space-test}
+use Rattle.kernel.specs.Meeting.{Judges}
+use Rattle.kernel.proofs.SpaceLaws.{sized-triangle, normal-in}
+use Rattle.kernel.proofs.meeting.known_triangles_meet.Statement.{statement}
+use Rattle.kernel.proofs.meeting.known_triangles_meet.Tie as tie
+
+space-triangle-requires : tie.Need-space-triangle-requires
+space-triangle-requires c κs = c .pre .0 .ready
+
+normal-in-requires : tie.Need-normal-in-requires
+normal-in-requires c κs = ap length (c .before .pre .2)
+
+space-triangle-requires-2 : tie.Need-space-triangle-requires-2
+space-triangle-requires-2 c κs = c .before .before .pre .1 .ready
+
+normal-in-requires-2 : tie.Need-normal-in-requires-2
+normal-in-requires-2 c κs = ap length (c .before .before .before .pre .3)
+
+spaces-meet-requires : tie.Need-spaces-meet-requires
+spaces-meet-requires c κs =
+    let q = c .before .before .before in
+    let p = q .before in
+    let t = q .space-triangle .ensures in
+    let u = c .before .space-triangle2 .ensures in (
+      sized-triangle (p .pre .0 .ready) t,
+      sized-triangle (p .pre .1 .ready) u,
+      normal-in (p .pre .0 .ready) t (c .before .before .normal-in .ensures ∙ p .pre .2),
+      normal-in (p .pre .1 .ready) u (c .normal-in2 .ensures ∙ p .pre .3),
+    )
+
+returns : tie.Need-returns
+returns c =
+    let q = c .before .before .before .before in
+    let p = q .before in
+    let t = q .space-triangle .ensures in
+    let u = c .before .before .space-triangle2 .ensures in
+    subst (λ (v : Bool). Judges 3 3 3 (p .args .first .now) (p .args .second .now) v)
+    (sym (c .spaces-meet .ensures ∙ (λ i. spaceTest (t .at-p i) (t .at-q i) (t .at-r i) (u .at-p i) (u .at-q i) (u .at-r i))))
+    (space-test _ _ _ _ _ _ (p .pre .0 .not-flat) (p .pre .1 .not-flat))
+
+pub known-triangles-meet-spec : {M : Type 1} → statement M
+known-triangles-meet-spec =
+    tie.close
+    (tie.spec
+    space-triangle-requires
+    normal-in-requires
+    space-triangle-requires-2
+    normal-in-requires-2
+    spaces-meet-requires
+    returns)
