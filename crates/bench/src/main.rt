@@ -3,6 +3,7 @@
 ghost use mathlib.Core.Path.{_≡_};
 ghost use lib.IntN.{natAbs};
 use libc::STDOUT_FILENO;
+use listing::ListAnswer;
 use predicate::Refusal;
 use predicate::Sign;
 use predicate::SignAnswer;
@@ -14,6 +15,11 @@ const L: i32 = 524_288;
 
 // Document 01's piece A, in space.
 const A: [i32; 9] = [0, 0, 0, 4, 0, 0, 0, 4, 0];
+
+// The lists of row 14: A and P2's second triangle, P1's second and P3's second.
+const FIRST: [i32; 18] = [0, 0, 0, 4, 0, 0, 0, 4, 0, 1, 1, 1, 2, 1, 1, 1, 2, 1];
+
+const SECOND: [i32; 18] = [1, 1, -1, 1, 1, 1, 5, 5, 1, 4, 0, 0, 5, 0, 1, 5, 1, 1];
 
 fn say(text: &[u8]) {
     io::write_all(STDOUT_FILENO, text);
@@ -76,6 +82,25 @@ fn say_verdict(answer: VerdictAnswer) {
     }
 }
 
+fn say_listing(answer: ListAnswer) {
+    match answer {
+        ListAnswer::Refused(why) => say_refusal(why),
+        ListAnswer::Listed(pairs) => {
+            say(b"pairs ");
+            say_count(pairs as u64);
+        }
+    }
+}
+
+fn say_numbers(numbers: &[u32]) {
+    let mut i: usize = 0;
+    while i < numbers.len() {
+        say(b" ");
+        say_count(numbers[i] as u64);
+        i += 1;
+    }
+}
+
 fn turn_row(row: &[u8], points: &[i32]) {
     say(row);
     say(b": sign ");
@@ -112,6 +137,17 @@ fn pair_row(row: &[u8], first: &[i32], second: &[i32]) {
     say(row);
     say(b": ");
     say_verdict(predicate::pair_verdict(first, second));
+    say(b"\n");
+}
+
+// A listing into a buffer of seven numbers, each 99 before: the answer, and the whole buffer afterwards.
+fn list_row(row: &[u8], first: &[i32], second: &[i32], start: usize) {
+    let mut buffer = [99u32; 7];
+    say(row);
+    say(b": ");
+    say_listing(listing::list_pairs(first, second, &mut buffer[..], start));
+    say(b"; buffer");
+    say_numbers(&buffer[..]);
     say(b"\n");
 }
 
@@ -192,6 +228,18 @@ fn sign_table_rows() {
         &A,
         &[0, 0, 0, 0, 0, L + 1, 4, 0, 0],
     );
+}
+
+// Its rows of listings.
+fn list_table_rows() {
+    list_row(
+        b"14   A and P2's second; P1's second and P3's second",
+        &FIRST,
+        &SECOND,
+        0,
+    );
+    list_row(b"15   14 with a buffer of 7, start 1", &FIRST, &SECOND, 1);
+    list_row(b"15   14 with a buffer of 7, start 2", &FIRST, &SECOND, 2);
 }
 
 // The turn: the other signs, and lengths, several bad positions, both ends of the grid and one past them.
@@ -362,13 +410,88 @@ fn segment_rows() {
     );
 }
 
+// Listings: the ends of the buffer, empty lists, and refusals with their places in a list of several triangles.
+fn list_rows() {
+    say(b"Further rows of the listing\n");
+    list_row(b"no triangles, start 7", &[], &[], 7);
+    list_row(b"no triangles, start 8", &[], &[], 8);
+    list_row(b"one list empty", &FIRST, &[], 0);
+    list_row(b"a pair, exactly full", &A, &A, 5);
+    list_row(b"a pair, one number short", &A, &A, 6);
+    list_row(b"8 numbers; 10 numbers, start 8", &A[..8], &FIRST[..10], 8);
+    list_row(b"8 numbers; 10 numbers", &A[..8], &FIRST[..10], 0);
+    list_row(
+        b"off the grid; 10 numbers",
+        &[0, 0, 0, L + 1, 0, 0, 0, 4, 0],
+        &FIRST[..10],
+        0,
+    );
+}
+
+// What the checks of a listing find in lists of two triangles.
+fn list_refusals() {
+    say(b"Refusals of the listing\n");
+    list_row(
+        b"flat, then off the grid",
+        &[0, 0, 0, 4, 0, 0, 8, 0, 0, 0, 0, 0, L + 1, 0, 0, 0, 4, 0],
+        &A,
+        0,
+    );
+    list_row(
+        b"fine, then positions 14 and 16 off the grid",
+        &[
+            0,
+            0,
+            0,
+            4,
+            0,
+            0,
+            0,
+            4,
+            0,
+            1,
+            1,
+            1,
+            2,
+            1,
+            L + 1,
+            1,
+            -L - 1,
+            1,
+        ],
+        &A,
+        0,
+    );
+    list_row(
+        b"fine; fine, then flat",
+        &A,
+        &[0, 0, 0, 4, 0, 0, 0, 4, 0, 1, 1, 1, 2, 2, 2, 3, 3, 3],
+        0,
+    );
+    list_row(
+        b"flat; off the grid",
+        &[0, 0, 0, 4, 0, 0, 8, 0, 0],
+        &[0, 0, 0, 4, 0, 0, 0, 4, L + 1],
+        0,
+    );
+    list_row(
+        b"too little room; fine, then flat",
+        &FIRST,
+        &[1, 1, -1, 1, 1, 1, 5, 5, 1, 4, 0, 0, 5, 0, 1, 6, 0, 2],
+        3,
+    );
+}
+
 fn main() {
     verdict_table_rows();
     sign_table_rows();
+    list_table_rows();
     turn_rows();
     side_rows();
     flat_rows();
     flat_refusals();
     pair_rows();
     segment_rows();
+    list_rows();
+    list_refusals();
 }
