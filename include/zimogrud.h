@@ -47,7 +47,8 @@
  * What the caller owes, which no call can see for itself. Each pointer is not null, is aligned for its type and is valid for
  * as many numbers as the length beside it says, for reading and, at `answer` and `buffer`, for writing; not null and aligned
  * also where the length is 0. `answer` and `buffer` overlap neither each other nor any of the other lists, and nothing else
- * writes to any of them during the call.
+ * writes to any of them during the call. zg_list takes some 230 kilobytes of stack, whatever its lists; the other calls take
+ * little.
  */
 #ifndef ZIMOGRUD_H
 #define ZIMOGRUD_H

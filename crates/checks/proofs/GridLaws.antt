@@ -1,5 +1,5 @@
 -- What the tests of the grid tell: of one number, and of the lowest position off the grid. Assumes nothing.
-use mathlib.Core.Path.{_≡_, refl, sym, ap, _∙_, subst}
+use mathlib.Core.Path.{_≡_, refl, sym, ap, _∙_}
 use mathlib.Core.Bool.{Bool, true, false, not, cond, true≢false}
 use mathlib.Core.List.{List, [], _∷_}
 use Prim.Native.Nat.{ℕ, zero, suc, _^_, _<_, _≤_}
@@ -13,13 +13,11 @@ use mir.Syntax.{w32}
 use mir.Val.{toZ, ofZ, hbits}
 use mir.Facts.{toZ-ofZ}
 use borrow.Author.Needs.{sfits-of}
-use Rattle.shape.specs.Points.{Point, coord, pointAt}
 use Rattle.shape.specs.Verdicts.{Says}
 use Rattle.shape.proofs.FlatLaws.{below-says}
 use Rattle.shape.proofs.VerdictLaws.{says-itself}
-use Rattle.kernel.specs.Grid.{limit, Ready}
+use Rattle.kernel.specs.Grid.{limit}
 use Rattle.checks.specs.Grid.{onGrid, lowestOff, allOn}
-use Rattle.kernel.specs.Vectors.{Sized}
 
 -- ---- one number, against a limit m + 1
 pub below-limit : (m : ℕ) (z : ℤ) → ltZ z (negsuc m) ≡ true → true ≡ not (leb (natAbs z) (suc m))

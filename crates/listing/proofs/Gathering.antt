@@ -23,7 +23,7 @@ gathered-same f g from (suc n) same = ap₂ _++_ first (gathered-same f g (suc f
         rw next at (same (suc t) (omega arith))
 
 -- ---- the places of the pieces
-pub gathered-shift : {A : Type 0} (f : ℕ → List A) (a from n : ℕ) → gathered f (a + from) n ≡ gathered (λ t. f (a + t)) from n
+gathered-shift : {A : Type 0} (f : ℕ → List A) (a from n : ℕ) → gathered f (a + from) n ≡ gathered (λ t. f (a + t)) from n
 gathered-shift f a from zero = refl
 gathered-shift f a from (suc n) =
     ap (λ r. f (a + from) ++ r) (ap (λ (k : ℕ). gathered f k n) (omega arith) ∙ gathered-shift f a (suc from) n)

@@ -17,6 +17,9 @@ module _ {X : Type 0} where
   pub part : (p k : ℕ) (xs : List X) → take (p + k - p) (drop p xs) ≡ take k (drop p xs)
   part p k xs = ap (λ (n : ℕ). take n (drop p xs)) {x = p + k - p} {y = k} (omega arith)
 
+  pub length-lent : (p k : ℕ) (xs : List X) → p + k ≤ length xs → length (take (p + k - p) (drop p xs)) ≡ k
+  length-lent p k xs h = ap length (part p k xs) ∙ length-part p k xs h
+
   -- What lies within the first p elements is a part of them.
   within-front : (q j p : ℕ) (xs : List X) → q + j ≤ p → take j (drop q (take p xs)) ≡ take j (drop q xs)
   within-front zero j p xs h = take-take j p xs (omega arith)

@@ -1,12 +1,14 @@
 -- What is known of lists that the checks of a listing passed (specs/Boxes.antt). Assumes nothing.
 use mathlib.Core.Path.{_≡_, ap, _∙_}
-use mathlib.Core.List.{List}
+use mathlib.Core.List.{List, [], _∷_}
 use mathlib.Core.Logic.{_⊎_, inl, inr}
-use Prim.Native.Nat.{ℕ, zero, suc, _-_, _*_, _<_, _≤_, min}
+use Prim.Native.Nat.{ℕ, zero, suc, _+_, _*_, _<_, _≤_}
 use native.Mathlib.Nat.{eq-or-lt-of-le}
 use native.Mathlib.Omega.{arith}
-use lib.IntN.{ℤ}
-use lib.ListN.{length, length-take, length-drop, drop}
+use lib.IntN.{ℤ, pos}
+use lib.ListN.{length, getD, drop}
+use lib.Seq.{getD-take, getD-drop}
+use Rattle.shape.specs.Points.{pointsAt}
 use Rattle.checks.specs.Answers.{Check, fine, _then_}
 use Rattle.checks.specs.Rules.{shapeChecks}
 use Rattle.checks.proofs.AnswerLaws.{then-fine}
@@ -14,15 +16,14 @@ use Rattle.checks.proofs.Passing.{passed}
 use Rattle.listing.specs.Rules.{triangles, nine, startWithin, listLength, checksBelow, eachTriangle, inputChecks}
 use Rattle.listing.specs.Boxes.{Sound}
 use Rattle.listing.proofs.ListChecks.{fine-within, fine-right-length}
+use Rattle.listing.proofs.Parts.{length-part}
 
 -- A triangle of a list has nine numbers.
-pub length-nine : (numbers : List ℤ) (i : ℕ) → i < triangles numbers → length (nine i numbers) ≡ 9
-length-nine numbers i h =
-    let inside : min 9 (length numbers - 9 * i) ≡ 9 = omega arith in
-    length-take 9 (drop (9 * i) numbers) ∙ ap (min 9) (length-drop (9 * i) numbers) ∙ inside
+length-nine : (numbers : List ℤ) (i : ℕ) → i < triangles numbers → length (nine i numbers) ≡ 9
+length-nine numbers i h = length-part (9 * i) 9 numbers (omega arith)
 
 -- Checks that are fine together are fine one by one.
-pub fine-each : (n : ℕ) (check : ℕ → Check) → checksBelow n check ≡ fine → (i : ℕ) → i < n → check i ≡ fine
+fine-each : (n : ℕ) (check : ℕ → Check) → checksBelow n check ≡ fine → (i : ℕ) → i < n → check i ≡ fine
 fine-each zero check e i h = absurd (omega arith)
 fine-each (suc n) check e i h = by-place (eq-or-lt-of-le h) (fine-each n check (both .0) i)
   where
@@ -36,7 +37,7 @@ fine-each (suc n) check e i h = by-place (eq-or-lt-of-le h) (fine-each n check (
     by-place (inr more) before = before (omega arith)
 
 -- So a list that passed is sound, and both lists of a listing are where all checks of the input are fine.
-pub list-sound : (side : ℕ) (numbers : List ℤ) → listLength side numbers ≡ fine → eachTriangle side numbers ≡ fine → Sound numbers
+list-sound : (side : ℕ) (numbers : List ℤ) → listLength side numbers ≡ fine → eachTriangle side numbers ≡ fine → Sound numbers
 list-sound side numbers right each = record {
   few = omega (arith, fine-right-length numbers side right .1);
   passed = λ i h. passed 3 3 side (9 * i) i (nine i numbers) (length-nine numbers i h)
@@ -55,3 +56,24 @@ pub start-within : (a b : List ℤ) (buffer : List ℕ) (start : ℕ) → inputC
 start-within a b buffer start e =
     fine-within start (length buffer)
     (then-fine (startWithin start (length buffer)) (listLength 0 a then listLength 1 b then eachTriangle 0 a then eachTriangle 1 b) e .0)
+
+-- ---- a triangle is read where it stands
+number-at : (numbers : List ℤ) (i k at : ℕ) → k < 9 → 9 * i + k ≡ at → getD (nine i numbers) k (pos 0) ≡ getD numbers at (pos 0)
+number-at numbers i k at h e =
+    getD-take 9 (drop (9 * i) numbers) k (pos 0) h ∙ getD-drop (9 * i) numbers k (pos 0) ∙ ap (λ (p : ℕ). getD numbers p (pos 0)) e
+
+-- The triangle of the nine numbers is the one that stands in the list from position 9 i on.
+pub triangle-at : (numbers : List ℤ) (i : ℕ) → pointsAt 3 3 0 (nine i numbers) ≡ pointsAt 3 3 (9 * i) numbers
+triangle-at numbers i =
+    let p : ℕ = 9 * i in
+    let n : (k at : ℕ) → k < 9 → p + k ≡ at → getD (nine i numbers) k (pos 0) ≡ getD numbers at (pos 0) = number-at numbers i in
+    let a = n 0 p (omega arith) (omega arith) in
+    let b = n 1 (suc p) (omega arith) (omega arith) in
+    let c = n 2 (suc (suc p)) (omega arith) (omega arith) in
+    let d = n 3 (p + 3) (omega arith) (omega arith) in
+    let e = n 4 (suc (p + 3)) (omega arith) (omega arith) in
+    let f = n 5 (suc (suc (p + 3))) (omega arith) (omega arith) in
+    let g = n 6 (p + 3 + 3) (omega arith) (omega arith) in
+    let h = n 7 (suc (p + 3 + 3)) (omega arith) (omega arith) in
+    let k = n 8 (suc (suc (p + 3 + 3))) (omega arith) (omega arith) in
+    λ x. (a x ∷ b x ∷ c x ∷ []) ∷ (d x ∷ e x ∷ f x ∷ []) ∷ (g x ∷ h x ∷ k x ∷ []) ∷ []

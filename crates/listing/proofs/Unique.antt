@@ -17,7 +17,7 @@ use Rattle.listing.specs.declared.answer.ListAnswer.the-variants.{Listed
 use Rattle.listing.proofs.Gathering.{gathered-same}
 
 -- Verdicts that agree below both counts list the same pairs.
-pub same-pairs : (f g : ℕ → ℕ → Bool) (n m : ℕ) → ((i j : ℕ) → i < n → j < m → f i j ≡ g i j) → pairsOf f n m ≡ pairsOf g n m
+same-pairs : (f g : ℕ → ℕ → Bool) (n m : ℕ) → ((i j : ℕ) → i < n → j < m → f i j ≡ g i j) → pairsOf f n m ≡ pairsOf g n m
 same-pairs f g n m same = gathered-same _ _ 0 n row
   where
     row : (t : ℕ) → t < n → gathered (λ j. pairIf (f (0 + t) j) (0 + t) j) 0 m ≡ gathered (λ j. pairIf (g (0 + t) j) (0 + t) j) 0 m

@@ -19,22 +19,22 @@ use Rattle.listing.specs.Words.{bit, ones, wordPairs, Verdicts, firstOf,
 use Rattle.listing.proofs.Gathering.{gathered-same, gathered-split, gathered-last, gathered-blocks}
 
 -- ---- a word with one more verdict, below those that it had
-pub halves : (word : ℕ) (v : Bool) → (2 * word + boolByte v) / 2 ≡ word
+halves : (word : ℕ) (v : Bool) → (2 * word + boolByte v) / 2 ≡ word
 halves word true = omega arith
 halves word false = omega arith
 
-pub rests : (word : ℕ) (v : Bool) → (2 * word + boolByte v) % 2 ≡ boolByte v
+rests : (word : ℕ) (v : Bool) → (2 * word + boolByte v) % 2 ≡ boolByte v
 rests word true = omega arith
 rests word false = omega arith
 
-pub lowest-bit : (word : ℕ) (v : Bool) → bit 0 (2 * word + boolByte v) ≡ v
+lowest-bit : (word : ℕ) (v : Bool) → bit 0 (2 * word + boolByte v) ≡ v
 lowest-bit word v = ap (λ (r : ℕ). eqb r 1) (rests word v) ∙ of-one v
   where
     of-one : (v : Bool) → eqb (boolByte v) 1 ≡ v
     of-one true = refl
     of-one false = refl
 
-pub higher-bit : (t word : ℕ) (v : Bool) → bit (suc t) (2 * word + boolByte v) ≡ bit t word
+higher-bit : (t word : ℕ) (v : Bool) → bit (suc t) (2 * word + boolByte v) ≡ bit t word
 higher-bit t word v = ap (bit t) (halves word v)
 
 pub ones-more : (n word : ℕ) (v : Bool) → ones (suc n) (2 * word + boolByte v) ≡ boolByte v + ones n word
@@ -74,7 +74,7 @@ no-more i from zero = refl
 no-more i from (suc n) = no-more i (suc from) n
 
 -- There are as many as bits that are set.
-pub length-word-pairs : (i from n word : ℕ) → length (wordPairs i from n word) ≡ ones n word
+length-word-pairs : (i from n word : ℕ) → length (wordPairs i from n word) ≡ ones n word
 length-word-pairs i from zero word = refl
 length-word-pairs i from (suc n) word =
     length-append (pairIf (bit 0 word) i from) (wordPairs i (suc from) n (word / 2))
@@ -87,7 +87,7 @@ length-word-pairs i from (suc n) word =
         omega arith
 
 -- They are gathered by its bits.
-pub word-pairs : (i from n word : ℕ) → wordPairs i from n word ≡ gathered (λ j. pairIf (bit (j - from) word) i j) from n
+word-pairs : (i from n word : ℕ) → wordPairs i from n word ≡ gathered (λ j. pairIf (bit (j - from) word) i j) from n
 word-pairs i from zero word = refl
 word-pairs i from (suc n) word =
     ap₂ _++_ (ap (λ (t : ℕ). pairIf (bit t word) i from) start)

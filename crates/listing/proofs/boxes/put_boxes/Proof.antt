@@ -5,10 +5,10 @@ use native.Mathlib.Omega.{arith}
 use borrow.Author.Needs.{needs}
 use borrow.Author.Count.{below-none}
 use borrow.Rule.Slice.PartMut.{same-len-mid}
-use lib.ListN.{length, take, drop}
+use lib.ListN.{length}
 use Rattle.listing.specs.Boxes.{boxOf, six}
 use Rattle.listing.specs.Rules.{nine}
-use Rattle.listing.proofs.Parts.{length-part, part, parts-more}
+use Rattle.listing.proofs.Parts.{length-lent, part, parts-more}
 use Rattle.listing.proofs.boxes.put_boxes.Statement.{statement}
 use Rattle.listing.proofs.boxes.put_boxes.Tie as tie
 
@@ -69,8 +69,8 @@ put-box-requires c κs =
     let p = c .before .before .before in
     let l = p .loop in
     let numbers = p .before .args .numbers .now in (
-      ap length (part (6 * l .i) 6 (l .boxes)) ∙ length-part (6 * l .i) 6 (l .boxes) (omega arith),
-      ap length (part (9 * l .i) 9 numbers) ∙ length-part (9 * l .i) 9 numbers (omega arith),
+      length-lent (6 * l .i) 6 (l .boxes) (omega arith),
+      length-lent (9 * l .i) 9 numbers (omega arith),
     )
 
 add-i : tie.Need-add-i Inv-loop μ-loop
@@ -91,7 +91,7 @@ loop-again c =
     let is-box : new ≡ boxOf (nine i numbers) = c .before .put-box .ensures ∙ ap boxOf (part (9 * i) 9 numbers) in
     let long : length new ≡ 6 = ap length is-box in (
       omega arith,
-      same-len-mid (6 * i) n boxes new (long ∙ sym (ap length (part (6 * i) 6 boxes) ∙ length-part (6 * i) 6 boxes room)) ∙ p .loop .inv .1,
+      same-len-mid (6 * i) n boxes new (long ∙ sym (length-lent (6 * i) 6 boxes room)) ∙ p .loop .inv .1,
       parts-more 6 i n boxes new (λ k. boxOf (nine k numbers)) (omega arith) long is-box (p .loop .inv .2),
     )
 

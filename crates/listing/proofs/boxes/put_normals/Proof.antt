@@ -12,7 +12,7 @@ use Rattle.kernel.specs.Grid.{Ready}
 use Rattle.kernel.specs.Spaces.{normalIn}
 use Rattle.listing.specs.Boxes.{three}
 use Rattle.listing.specs.Rules.{nine}
-use Rattle.listing.proofs.Parts.{length-part, part, parts-more}
+use Rattle.listing.proofs.Parts.{length-lent, part, parts-more}
 use Rattle.listing.proofs.boxes.put_normals.Statement.{statement}
 use Rattle.listing.proofs.boxes.put_normals.Tie as tie
 
@@ -73,7 +73,7 @@ put-normal-requires c κs =
     let p = c .before .before .before in
     let l = p .loop in
     let numbers = p .before .args .numbers .now in (
-      ap length (part (3 * l .i) 3 (l .normals)) ∙ length-part (3 * l .i) 3 (l .normals) (omega arith),
+      length-lent (3 * l .i) 3 (l .normals) (omega arith),
       subst (λ (n : List ℤ). Ready 9 n) (sym (part (9 * l .i) 9 numbers)) (p .before .pre .0 .passed (l .i) (omega arith) .ready),
     )
 
@@ -95,7 +95,7 @@ loop-again c =
     let is-normal : new ≡ normalIn (nine i numbers) = c .before .put-normal .ensures ∙ ap normalIn (part (9 * i) 9 numbers) in
     let long : length new ≡ 3 = ap length is-normal in (
       omega arith,
-      same-len-mid (3 * i) n normals new (long ∙ sym (ap length (part (3 * i) 3 normals) ∙ length-part (3 * i) 3 normals room)) ∙ p .loop .inv .1,
+      same-len-mid (3 * i) n normals new (long ∙ sym (length-lent (3 * i) 3 normals room)) ∙ p .loop .inv .1,
       parts-more 3 i n normals new (λ k. normalIn (nine k numbers)) (omega arith) long is-normal (p .loop .inv .2),
     )
 

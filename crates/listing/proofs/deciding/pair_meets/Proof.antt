@@ -1,5 +1,5 @@
 -- `listing::deciding::pair_meets` meets its contract: boxes that are apart hold triangles that are, and the pair test decides the rest. Assumes nothing.
-use mathlib.Core.Path.{_≡_, sym, ap, subst, _∙_}
+use mathlib.Core.Path.{sym, ap, subst, _∙_}
 use mathlib.Core.List.{List}
 use Prim.Native.Nat.{_*_}
 use native.Mathlib.Omega.{arith}
@@ -13,7 +13,7 @@ use Rattle.kernel.specs.Spaces.{normalIn}
 use Rattle.listing.specs.Boxes.{boxesApart}
 use Rattle.listing.specs.Rules.{nine}
 use Rattle.listing.proofs.BoxLaws.{boxes-apart}
-use Rattle.listing.proofs.Parts.{part, length-part}
+use Rattle.listing.proofs.Parts.{part, length-lent}
 use Rattle.listing.proofs.deciding.pair_meets.Statement.{statement}
 use Rattle.listing.proofs.deciding.pair_meets.Tie as tie
 
@@ -43,7 +43,7 @@ boxes-apart-requires c κs =
     let p = c .before in
     let a = p .args in (
       ap length (p .pre .0 .boxed),
-      ap length (part (6 * a .j) 6 (a .boxes .now)) ∙ length-part (6 * a .j) 6 (a .boxes .now) (omega (arith, p .pre .1 .room-of-boxes)),
+      length-lent (6 * a .j) 6 (a .boxes .now) (omega (arith, p .pre .1 .room-of-boxes)),
     )
 
 returns : tie.Need-returns

@@ -6,13 +6,13 @@ use native.Mathlib.Omega.{arith}
 use borrow.Author.Needs.{needs}
 use borrow.Author.Count.{below-none, below-more}
 use lib.IntN.{ℤ}
-use lib.ListN.{length, take, drop}
+use lib.ListN.{take, drop}
 use Rattle.checks.specs.Answers.{Check, fine}
 use Rattle.checks.specs.Rules.{shapeChecks}
 use Rattle.checks.specs.Told.{toldCheck}
 use Rattle.listing.specs.Rules.{triangles, nine}
 use Rattle.listing.proofs.ListChecks.{all-fine, first-refused}
-use Rattle.listing.proofs.Parts.{part, length-part}
+use Rattle.listing.proofs.Parts.{part, length-lent}
 use Rattle.listing.proofs.input.each_checked.Statement.{statement}
 use Rattle.listing.proofs.input.each_checked.Tie as tie
 
@@ -62,7 +62,7 @@ shape-checked-requires : tie.Need-shape-checked-requires Inv-loop μ-loop
 shape-checked-requires c κs =
     let p = c .before .before in
     let numbers = p .before .args .numbers .now in
-    let long = ap length (part (9 * p .loop .i) 9 numbers) ∙ length-part (9 * p .loop .i) 9 numbers (omega arith) in
+    let long = length-lent (9 * p .loop .i) 9 numbers (omega arith) in
     (long, omega (arith, long))
 
 enum-known-found : tie.Need-enum-known-found Inv-loop μ-loop

@@ -1,5 +1,4 @@
 -- `listing::pairs::list_found` meets its contract: the part of the buffer from the start on is lent to the pair writer where it has room. Assumes nothing.
-use mathlib.Core.Path.{_∙_}
 use Prim.Native.Nat.{_*_}
 use native.Mathlib.Omega.{arith}
 use borrow.Author.Needs.{needs}

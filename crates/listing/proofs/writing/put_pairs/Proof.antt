@@ -1,12 +1,12 @@
 -- `listing::writing::put_pairs` meets its contract: each turn writes what the next word tells. Assumes nothing.
 use mathlib.Core.Path.{_≡_, sym, ap, subst, _∙_}
-use mathlib.Core.List.{List, [], _++_}
-use Prim.Native.Nat.{ℕ, zero, suc, _+_, _-_, _*_, _/_, _^_, _<_, _≤_}
+use mathlib.Core.List.{List, _++_}
+use Prim.Native.Nat.{ℕ, suc, _+_, _-_, _*_, _/_, _^_, _<_, _≤_}
 use native.Mathlib.Omega.{arith}
 use borrow.Author.Needs.{needs}
 use lib.ListN.{length, getD}
 use Rattle.listing.specs.Pairs.{gathered, twoEach}
-use Rattle.listing.specs.Words.{wordPairs, toldBy, firstOf, span, Wrote}
+use Rattle.listing.specs.Words.{wordPairs, toldBy, firstOf, Wrote}
 use Rattle.listing.proofs.Filling.{Filling, filling-starts, free-part, length-free, room-for-more, filled-on, filling-ends}
 use Rattle.listing.proofs.Gathering.{two-each-append}
 use Rattle.listing.proofs.writing.put_pairs.Statement.{statement}

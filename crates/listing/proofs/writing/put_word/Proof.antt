@@ -1,12 +1,11 @@
 -- `listing::writing::put_word` meets its contract: each turn writes what the lowest bit tells and drops it. Assumes nothing.
 use mathlib.Core.Path.{_≡_, ap, subst, _∙_}
-use mathlib.Core.List.{List, [], _++_}
+use mathlib.Core.List.{List, _++_}
 use Prim.Native.Nat.{ℕ, zero, suc, _+_, _-_, _/_, _^_, _<_, _≤_}
 use native.Mathlib.Omega.{arith}
 use borrow.Author.Needs.{needs}
-use lib.ListN.{length}
 use Rattle.listing.specs.Pairs.{pairIf, twoEach}
-use Rattle.listing.specs.Words.{bit, wordPairs, Wrote}
+use Rattle.listing.specs.Words.{bit, wordPairs}
 use Rattle.listing.proofs.Filling.{Filling, filling-starts, length-free, room-for-more, filled-on, filling-ends}
 use Rattle.listing.proofs.Gathering.{two-each-append}
 use Rattle.listing.proofs.WordLaws.{half-small, no-more}
