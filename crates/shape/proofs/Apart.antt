@@ -1,5 +1,6 @@
 -- Apart by a functional: whole numbers c1 .. ck and m such that c·a + m ≤ 0 at every corner a of one shape and > 0 at
--- every corner of the other leave no point in common. Every "no" of the tests is an instance of `apart`. Assumes nothing.
+-- every corner of the other leave no point in common. Every "no" of the tests is an instance of `apart`, and so is that of boxes, along one
+-- coordinate (`apart-along`). Assumes nothing.
 use mathlib.Core.Path.{_≡_, refl, sym, _∙_, ap, ap₂, subst}
 use mathlib.Core.List.{List, [], _∷_}
 use Prim.Native.Nat.{ℕ, zero, suc, _+_, _≤_, _<_}
