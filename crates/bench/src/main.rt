@@ -410,7 +410,7 @@ fn segment_rows() {
     );
 }
 
-// Listings: the ends of the buffer, empty lists, and refusals with their places in a list of several triangles.
+// Listings: the ends of the buffer, and empty lists.
 fn list_rows() {
     say(b"Further rows of the listing\n");
     list_row(b"no triangles, start 7", &[], &[], 7);
@@ -418,6 +418,10 @@ fn list_rows() {
     list_row(b"one list empty", &FIRST, &[], 0);
     list_row(b"a pair, exactly full", &A, &A, 5);
     list_row(b"a pair, one number short", &A, &A, 6);
+}
+
+// What is refused for the start and the lengths, and in which order.
+fn list_length_refusals() {
     list_row(b"8 numbers; 10 numbers, start 8", &A[..8], &FIRST[..10], 8);
     list_row(b"8 numbers; 10 numbers", &A[..8], &FIRST[..10], 0);
     list_row(
@@ -429,8 +433,7 @@ fn list_rows() {
 }
 
 // What the checks of a listing find in lists of two triangles.
-fn list_refusals() {
-    say(b"Refusals of the listing\n");
+fn first_list_refusals() {
     list_row(
         b"flat, then off the grid",
         &[0, 0, 0, 4, 0, 0, 8, 0, 0, 0, 0, 0, L + 1, 0, 0, 0, 4, 0],
@@ -439,29 +442,13 @@ fn list_refusals() {
     );
     list_row(
         b"fine, then positions 14 and 16 off the grid",
-        &[
-            0,
-            0,
-            0,
-            4,
-            0,
-            0,
-            0,
-            4,
-            0,
-            1,
-            1,
-            1,
-            2,
-            1,
-            L + 1,
-            1,
-            -L - 1,
-            1,
-        ],
+        &[0, 0, 0, 4, 0, 0, 0, 4, 0, 1, 1, 1, 2, 1, L + 1, 1, L + 1, 1],
         &A,
         0,
     );
+}
+
+fn second_list_refusals() {
     list_row(
         b"fine; fine, then flat",
         &A,
@@ -493,5 +480,8 @@ fn main() {
     pair_rows();
     segment_rows();
     list_rows();
-    list_refusals();
+    say(b"Refusals of the listing\n");
+    list_length_refusals();
+    first_list_refusals();
+    second_list_refusals();
 }

@@ -71,7 +71,7 @@ pub fn put_normal(normal: &mut [i64], corners: &[i32])
     normal[2] = z;
 }
 
-// Two triangles whose normals are known.
+// Two triangles whose normals, m and n, are known.
 pub fn known_triangles_meet(first: &[i32], m: &[i64], second: &[i32], n: &[i64]) -> bool
     requires { ⌜ Passed 3 3 (now first) × Passed 3 3 (now second) × (now m ≡ normalIn (now first)) × (now n ≡ normalIn (now second)) ⌝ }
     ensures { λ r. ⌜ Judges 3 3 3 (now (first .entry)) (now (second .entry)) r ⌝ }

@@ -21,9 +21,9 @@ abbrev pub nine : ℕ → List ℤ → List ℤ
 nine i numbers = take 9 (drop (9 * i) numbers)
 
 -- ---- the reasons for saying no
--- Reason 4: a start beyond the buffer's end. The place is the buffer's length.
+-- Reason 4: a start beyond the end of a buffer of so many numbers. The place is the buffer's length.
 abbrev pub startWithin : ℕ → ℕ → Check
-startWithin start room = cond (leb start room) fine (refused 4 0 room)
+startWithin start long = cond (leb start long) fine (refused 4 0 long)
 
 -- Reason 3: a length that is not a multiple of nine, or above 9,216. The place is the length.
 abbrev pub listLength : ℕ → List ℤ → Check

@@ -62,6 +62,7 @@ onesBelow m words (suc k) = onesBelow m words k + ones (span m (firstOf k)) (get
 abbrev pub VerdictsBelow : List ℤ → List ℤ → List ℕ → ℕ → Type 0
 VerdictsBelow a b words n = (k : ℕ) → k < n → Verdicts (nine (k / 16) a) b (firstOf k) (span (triangles b) (firstOf k)) (getD words k 0)
 
+-- The outcome of a listing whose pairs are those that the first n words tell.
 abbrev pub listed : ℕ → List ℕ → ℕ → List ℕ → ℕ → Answer (List Pair)
 listed m words n buffer start =
     let pairs = gathered (toldBy m words) 0 n in

@@ -8,7 +8,7 @@ ghost use Rattle.checks.specs.Answers.{refused, _then_};
 ghost use Rattle.checks.specs.Told.{toldCheck};
 ghost use Rattle.listing.specs.Rules.{startWithin, listLength, eachTriangle};
 
-// Refusal 4, where the buffer has room for so many numbers.
+// Refusal 4, where the whole buffer has room for so many numbers.
 fn start_checked(start: usize, room: usize) -> Checked
     ensures { λ r. ⌜ toldCheck r ≡ startWithin start room ⌝ }
 {

@@ -18,7 +18,7 @@ fn put_lowest(out: &mut [u32], i: u32, j: u32, bits: u64) -> usize
     0
 }
 
-// The pairs of a word whose n lowest bits are verdicts on i and the triangles from one on.
+// The pairs of a word whose n lowest bits are verdicts on i and the triangles from one on. Gives how many numbers it wrote, as all writers here do.
 fn put_word(out: &mut [u32], i: u32, from: u32, n: u32, word: u64) -> usize
     requires { ⌜ (word < 2 ^ n) × (from ≤ 1024) × (n ≤ 64) × (length (twoEach (wordPairs i from n word)) ≤ length (now out)) ⌝ }
     ensures { λ r. ⌜ Wrote (twoEach (wordPairs i from n word)) (now (out .entry)) r (now (out .exit)) ⌝ }
