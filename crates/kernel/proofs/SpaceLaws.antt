@@ -9,8 +9,10 @@ use lib.ListN.{length, getD}
 use lib.IntN.{ℤ, natAbs}
 use Rattle.shape.specs.Points.{Point, coord, pointAt}
 use Rattle.shape.specs.Signs.{row, sign, digit}
-use Rattle.shape.specs.SpaceTest.{level, Standing, beside, standings, standing, byStanding, placed, keptFirst, keptSecond, without, lastSigns}
-use Rattle.kernel.specs.Grid.{limit, Ready}
+use Rattle.shape.specs.SpaceTest.{level, Standing, beside, standings, standing, byStanding, placed, keptFirst, keptSecond, without, lastSigns, spaceTest}
+use Rattle.shape.proofs.SpaceTest.{space-test}
+use Rattle.kernel.specs.Grid.{limit, Ready, Passed}
+use Rattle.kernel.specs.Meeting.{Judges}
 use Rattle.kernel.specs.Vectors.{spatial, Sized, minorSize, dot}
 use Rattle.kernel.specs.Planes.{PlaneAt, SizedTriangle}
 use Rattle.kernel.specs.Spaces.{SpaceAt, SizedSpace, normalOf, IsNormal, normalIn, ofSpace, ofSpaces, placedAs, toldStanding}
@@ -57,6 +59,15 @@ module _ {a b c : Point} {t : SpaceTriangle} (at : SpaceAt a b c t) where
 -- The triangle of a list that passed its checks.
 pub sized-triangle : {l : List ℤ} {t : SpaceTriangle} → Ready 9 l → SpaceAt (pointAt 3 0 l) (pointAt 3 3 l) (pointAt 3 6 l) t → SizedSpace limit t
 sized-triangle ready at = space-size-at at (sized-point ready 3 0 refl) (sized-point ready 3 3 refl) (sized-point ready 3 6 refl)
+
+-- Two triangles that passed their checks, decided by the test in space: it is right.
+pub judged : {first second : List ℤ} {t u : SpaceTriangle} {r : Bool} → Passed 3 3 first → Passed 3 3 second →
+    SpaceAt (pointAt 3 0 first) (pointAt 3 3 first) (pointAt 3 6 first) t → SpaceAt (pointAt 3 0 second) (pointAt 3 3 second) (pointAt 3 6 second) u →
+    r ≡ ofSpaces spaceTest t u → Judges 3 3 3 first second r
+judged {first} {second} p q t u e =
+    subst (λ (v : Bool). Judges 3 3 3 first second v)
+    (sym (e ∙ (λ i. spaceTest (t .at-p i) (t .at-q i) (t .at-r i) (u .at-p i) (u .at-q i) (u .at-r i))))
+    (space-test _ _ _ _ _ _ (p .not-flat) (q .not-flat))
 
 -- ---- normals
 -- The normal that is kept of a list is that of its triangle.

@@ -1,11 +1,7 @@
 -- `kernel::meeting::known_triangles_meet` meets its contract: the test is right on triangles that are not flat. Assumes nothing.
-use mathlib.Core.Path.{sym, ap, subst, _∙_}
-use mathlib.Core.Bool.{Bool}
+use mathlib.Core.Path.{ap, _∙_}
 use lib.ListN.{length}
-use Rattle.shape.specs.SpaceTest.{spaceTest}
-use Rattle.shape.proofs.SpaceTest.{space-test}
-use Rattle.kernel.specs.Meeting.{Judges}
-use Rattle.kernel.proofs.SpaceLaws.{sized-triangle, normal-in}
+use Rattle.kernel.proofs.SpaceLaws.{judged, sized-triangle, normal-in}
 use Rattle.kernel.proofs.meeting.known_triangles_meet.Statement.{statement}
 use Rattle.kernel.proofs.meeting.known_triangles_meet.Tie as tie
 
@@ -39,9 +35,7 @@ returns c =
     let p = q .before in
     let t = q .space-triangle .ensures in
     let u = c .before .before .space-triangle2 .ensures in
-    subst (λ (v : Bool). Judges 3 3 3 (p .args .first .now) (p .args .second .now) v)
-    (sym (c .spaces-meet .ensures ∙ (λ i. spaceTest (t .at-p i) (t .at-q i) (t .at-r i) (u .at-p i) (u .at-q i) (u .at-r i))))
-    (space-test _ _ _ _ _ _ (p .pre .0 .not-flat) (p .pre .1 .not-flat))
+    judged (p .pre .0) (p .pre .1) t u (c .spaces-meet .ensures)
 
 pub known-triangles-meet-spec : {M : Type 1} → statement M
 known-triangles-meet-spec =
