@@ -12,6 +12,10 @@ use Rattle.checks.specs.declared.answer.Refusal.{Refusal}
 pub served-not-refused : {A : Type 0} (a : A) (why : Refusal) → _≡_ {A = Answer A} (served a) (toldRefusal why) → ⊥
 served-not-refused a why e = let z : _≡_ {A = ℕ} 0 1 = cc in omega arith
 
+-- A check is never both fine and refused.
+pub never-fine : {c : Check} {number side place : ℕ} → c ≡ fine → c ≡ refused number side place → ⊥
+never-fine {number} {side} {place} e f = served-not-refused tt (record { number = number; side = side; place = place }) (sym e ∙ f)
+
 -- What follows two checks taken together follows them one by one.
 pub then-assoc : {A : Type 0} (x y : Check) (a : Answer A) → ((x then y) then a) ≡ (x then (y then a))
 then-assoc (served u) y a = refl

@@ -1,6 +1,6 @@
 -- What each check finds, by its cases, and each case by what the check finds: the only place where the tests in the rules are
 -- taken apart. Assumes nothing.
-use mathlib.Core.Path.{_≡_, refl, sym, ap, _∙_}
+use mathlib.Core.Path.{_≡_, refl, ap, _∙_}
 use mathlib.Core.Bool.{Bool, true, false, cond}
 use mathlib.Core.List.{List}
 use Prim.Native.Nat.{ℕ, _+_, _≤_}
@@ -17,11 +17,8 @@ use Rattle.checks.specs.Answers.{refused, fine}
 use Rattle.kernel.specs.Grid.{limit, Ready}
 use Rattle.checks.specs.Grid.{lowestOff}
 use Rattle.checks.specs.Rules.{rightLength, allOnGrid, notFlat}
+use Rattle.checks.proofs.AnswerLaws.{never-fine}
 use Rattle.checks.proofs.GridLaws.{Lowest, lowest, lowest-one, all-on}
-
--- A refusal is never fine.
-never-fine : {number side place : ℕ} → fine ≡ refused number side place → ⊥
-never-fine e = let z : _≡_ {A = ℕ} 0 1 = cc in omega arith
 
 -- ---- the length
 pub data LengthCase (side want : ℕ) (l : List ℤ) : Type 0 where
@@ -41,7 +38,7 @@ fine-long side want l e = by-case (length-case side want l)
   where
     by-case : LengthCase side want l → length l ≡ want
     by-case (right h g) = h
-    by-case (wrong h g) = absurd (never-fine (sym e ∙ g))
+    by-case (wrong h g) = absurd (never-fine e g)
 
 pub long-fine : (side want : ℕ) (l : List ℤ) → length l ≡ want → rightLength side want l ≡ fine
 long-fine side want l long = by-case (length-case side want l)
@@ -83,7 +80,7 @@ fine-ready {want} side from l long e = by-case (grid-case side from l)
   where
     by-case : GridCase side from l → Ready want l
     by-case (all on g) = record { long = long; each = on }
-    by-case (not-all low g) = absurd (never-fine (sym e ∙ g))
+    by-case (not-all low g) = absurd (never-fine e g)
 
 pub on-fine : (side from : ℕ) (l : List ℤ) → OnGrid l → allOnGrid side from l ≡ fine
 on-fine side from l on = by-case (grid-case side from l)
@@ -115,7 +112,7 @@ pub fine-not-flat : (n side index : ℕ) (P : Shape) → notFlat n side index P 
 fine-not-flat n side index P e = by-case (flat-case n side index P)
   where
     by-case : FlatCase n side index P → Flat n P → ⊥
-    by-case (flat h g) = absurd (never-fine (sym e ∙ g))
+    by-case (flat h g) = absurd (never-fine e g)
     by-case (not-flat h g) = h
 
 pub not-flat-fine : (n side index : ℕ) (P : Shape) → (Flat n P → ⊥) → notFlat n side index P ≡ fine

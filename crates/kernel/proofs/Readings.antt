@@ -1,6 +1,6 @@
 -- Coordinates as the code holds them: each is the whole number that is meant, and no larger than the grid allows. Here stand
--- the readings of a coordinate, of a difference, of products and of a vector, which the leaves' proofs put together.
--- Assumes nothing.
+-- the readings of a coordinate, of a difference, of products, of a vector and of a plane's normal, which the leaves' proofs put together;
+-- and lists whose numbers are read or stored one by one. Assumes nothing.
 use mathlib.Core.Path.{_≡_, refl, sym, ap, _∙_}
 use mathlib.Core.Bool.{Bool, true, false}
 use mathlib.Core.List.{List, [], _∷_, _++_, append-nil}

@@ -1,6 +1,6 @@
 -- What each check of a listing finds, by the facts, and what is known where it is fine: the only place where the tests in the rules of
 -- a listing are taken apart. Assumes nothing.
-use mathlib.Core.Path.{_≡_, refl, sym, ap, _∙_, subst}
+use mathlib.Core.Path.{_≡_, refl, ap, _∙_, subst}
 use mathlib.Core.Bool.{Bool, true, false, cond}
 use mathlib.Core.List.{List}
 use mathlib.Core.Logic.{_⊎_, inl, inr}
@@ -15,7 +15,7 @@ use Rattle.shape.specs.Points.{Shape, pointsAt}
 use Rattle.shape.specs.Flat.{Flat}
 use Rattle.checks.specs.Answers.{Check, refused, fine, _then_}
 use Rattle.checks.specs.Rules.{notFlat, shapeChecks}
-use Rattle.checks.proofs.AnswerLaws.{served-not-refused}
+use Rattle.checks.proofs.AnswerLaws.{never-fine}
 use Rattle.checks.proofs.GridLaws.{Lowest}
 use Rattle.checks.proofs.CheckLaws.{OnGrid, GridCase, all, not-all, grid-case, FlatCase, flat, not-flat, flat-case, on-fine, off-refused, not-flat-fine, flat-refused}
 use Rattle.listing.specs.Rules.{triangles, nine, startWithin, listLength, checksBelow, eachTriangle, roomFor}
@@ -27,10 +27,6 @@ at-most-or-above x y = by-test (leb x y) refl
     by-test : (t : Bool) → leb x y ≡ t → (x ≤ y) ⊎ (y < x)
     by-test true e = inl (leb-true x y e)
     by-test false e = inr (leb-false x y e)
-
--- A refusal is never fine.
-never-fine : {c : Check} {number side place : ℕ} → c ≡ fine → c ≡ refused number side place → ⊥
-never-fine {c} {number} {side} {place} e f = served-not-refused tt (record { number = number; side = side; place = place }) (sym e ∙ f)
 
 -- ---- the start
 module _ (start room : ℕ) where
