@@ -1,6 +1,6 @@
 -- What each check of a listing finds, by the facts, and what is known where it is fine: the only place where the tests in the rules of
 -- a listing are taken apart. Assumes nothing.
-use mathlib.Core.Path.{_≡_, refl, ap, _∙_, subst}
+use mathlib.Core.Path.{_≡_, refl, ap, subst}
 use mathlib.Core.Bool.{Bool, true, false, cond}
 use mathlib.Core.List.{List}
 use mathlib.Core.Logic.{_⊎_, inl, inr}
