@@ -8,3 +8,6 @@ pub mod Certificate
 pub mod Bound
 pub mod Machine
 pub mod Examples
+-- Lists, for the proofs of code: parts that are lent and put back, and a list that is written over from the front.
+pub mod Parts
+pub mod Copying

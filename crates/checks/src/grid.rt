@@ -29,7 +29,7 @@ pub fn off_grid(z: i32) -> bool
 
 // Whether every number is on the grid. No number ends the loop before its time: most lists are on the grid, and for them this is
 // faster than seeking a place.
-fn all_on(numbers: &[i32]) -> bool
+pub fn all_on(numbers: &[i32]) -> bool
     ensures { λ r. ⌜ r ≡ allOn (now (numbers .entry)) ⌝ }
 {
     let mut on = true;

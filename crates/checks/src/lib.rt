@@ -6,6 +6,7 @@ mod shapes;
 
 pub use answer::Refusal;
 pub use grid::Checked;
+pub use grid::all_on;
 pub use grid::grid_checked;
 pub use grid::length_checked;
 pub use shapes::pair_checked;

@@ -102,10 +102,10 @@ determinant-by-minors u v w =
     (determinantE (point 0) (point 1) (point 2)) tt refl
 
 -- ---- a list whose numbers are all stored anew, one by one
-pub all-stored : (new old : List ℤ) → length old ≡ length new → sets old 0 new ≡ new
-all-stored new old e =
+pub all-stored : {A : Type 0} (new old : List A) → length old ≡ length new → sets old 0 new ≡ new
+all-stored {A} new old e =
     sets-eq new old 0 (omega arith)
-    ∙ ap (λ (rest : List ℤ). new ++ rest) (drop-of-length-le old {i = 0 + length new} (omega arith))
+    ∙ ap (λ (rest : List A). new ++ rest) (drop-of-length-le old {i = 0 + length new} (omega arith))
     ∙ append-nil new
 
 -- ---- three numbers of a list

@@ -35,10 +35,11 @@ pub fn segment_meets_triangle(first: &[i32], second: &[i32]) -> bool
     )
 }
 
-// Two triangles in space, nine numbers each.
+// Two triangles in space, nine numbers each, which need only be on the grid: the verdict is promised where neither is flat, so that those who
+// know that by what they keep don't have to ask for it again.
 pub fn triangles_meet(first: &[i32], second: &[i32]) -> bool
-    requires { ⌜ Passed 3 3 (now first) × Passed 3 3 (now second) ⌝ }
-    ensures { λ r. ⌜ Judges 3 3 3 (now (first .entry)) (now (second .entry)) r ⌝ }
+    requires { ⌜ Ready 9 (now first) × Ready 9 (now second) ⌝ }
+    ensures { λ r. ⌜ (Passed 3 3 (now (first .entry)) → Passed 3 3 (now (second .entry)) → Judges 3 3 3 (now (first .entry)) (now (second .entry)) r) ⌝ }
 {
     let t = space_triangle(first);
     let u = space_triangle(second);

@@ -1,5 +1,4 @@
 -- What the proofs of several functions share:
---   Parts         parts of a list, as code takes them, and a list with parts put back
 --   BoxLaws       boxes: the best of three numbers, and boxes that are apart
 --   Gathering     lists gathered from pieces, and two numbers a pair
 --   WordLaws      what the words of verdicts tell
@@ -11,7 +10,6 @@
 --   Order         the pairs are exactly those that have a point in common, each once, rising
 --   Table         each reason exactly in its case
 --   Unique        no second answer and no second buffer
-pub mod Parts
 pub mod BoxLaws
 pub mod Gathering
 pub mod WordLaws

@@ -8,6 +8,7 @@ use native.Mathlib.Omega.{arith}
 use lib.IntN.{ℤ, pos}
 use lib.ListN.{length, getD, drop}
 use lib.Seq.{getD-take, getD-drop}
+use Rattle.algebra.proofs.Parts.{length-part}
 use Rattle.shape.specs.Points.{pointsAt}
 use Rattle.checks.specs.Answers.{Check, fine, _then_}
 use Rattle.checks.specs.Rules.{shapeChecks}
@@ -16,7 +17,6 @@ use Rattle.checks.proofs.Passing.{passed}
 use Rattle.listing.specs.Rules.{triangles, nine, startWithin, listLength, checksBelow, eachTriangle, inputChecks}
 use Rattle.listing.specs.Boxes.{Sound}
 use Rattle.listing.proofs.ListChecks.{fine-within, fine-right-length}
-use Rattle.listing.proofs.Parts.{length-part}
 
 -- A triangle of a list has nine numbers.
 length-nine : (numbers : List ℤ) (i : ℕ) → i < triangles numbers → length (nine i numbers) ≡ 9

@@ -4,23 +4,23 @@ use Rattle.kernel.proofs.meeting.triangles_meet.Statement.{statement}
 use Rattle.kernel.proofs.meeting.triangles_meet.Tie as tie
 
 space-triangle-requires : tie.Need-space-triangle-requires
-space-triangle-requires c κs = c .pre .0 .ready
+space-triangle-requires c κs = c .pre .0
 
 space-triangle-requires-2 : tie.Need-space-triangle-requires-2
-space-triangle-requires-2 c κs = c .before .pre .1 .ready
+space-triangle-requires-2 c κs = c .before .pre .1
 
 normal-of-requires : tie.Need-normal-of-requires
-normal-of-requires c κs = sized-triangle (c .before .before .pre .0 .ready) (c .before .space-triangle .ensures)
+normal-of-requires c κs = sized-triangle (c .before .before .pre .0) (c .before .space-triangle .ensures)
 
 normal-of-requires-2 : tie.Need-normal-of-requires-2
-normal-of-requires-2 c κs = sized-triangle (c .before .before .before .pre .1 .ready) (c .before .space-triangle2 .ensures)
+normal-of-requires-2 c κs = sized-triangle (c .before .before .before .pre .1) (c .before .space-triangle2 .ensures)
 
 spaces-meet-requires : tie.Need-spaces-meet-requires
 spaces-meet-requires c κs =
     let q = c .before .before in
     let p = q .before .before in (
-      sized-triangle (p .pre .0 .ready) (q .before .space-triangle .ensures),
-      sized-triangle (p .pre .1 .ready) (q .space-triangle2 .ensures),
+      sized-triangle (p .pre .0) (q .before .space-triangle .ensures),
+      sized-triangle (p .pre .1) (q .space-triangle2 .ensures),
       c .before .normal-of .ensures,
       c .normal-of2 .ensures,
     )
@@ -31,7 +31,7 @@ returns c =
     let p = q .before .before in
     let t = q .before .space-triangle .ensures in
     let u = q .space-triangle2 .ensures in
-    judged (p .pre .0) (p .pre .1) t u (c .spaces-meet .ensures)
+    λ first second. judged first second t u (c .spaces-meet .ensures)
 
 pub triangles-meet-spec : {M : Type 1} → statement M
 triangles-meet-spec =

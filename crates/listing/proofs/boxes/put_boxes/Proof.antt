@@ -6,9 +6,9 @@ use borrow.Author.Needs.{needs}
 use borrow.Author.Count.{below-none}
 use borrow.Rule.Slice.PartMut.{same-len-mid}
 use lib.ListN.{length}
+use Rattle.algebra.proofs.Parts.{length-lent, part, parts-more}
 use Rattle.listing.specs.Boxes.{boxOf, six}
 use Rattle.listing.specs.Rules.{nine}
-use Rattle.listing.proofs.Parts.{length-lent, part, parts-more}
 use Rattle.listing.proofs.boxes.put_boxes.Statement.{statement}
 use Rattle.listing.proofs.boxes.put_boxes.Tie as tie
 

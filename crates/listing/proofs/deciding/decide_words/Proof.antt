@@ -6,12 +6,12 @@ use native.Mathlib.Omega.{arith}
 use borrow.Author.Needs.{needs}
 use lib.IntN.{ℤ}
 use lib.ListN.{length, length-set}
+use Rattle.algebra.proofs.Parts.{part}
 use Rattle.kernel.specs.Grid.{Passed}
 use Rattle.kernel.specs.Spaces.{normalIn}
 use Rattle.listing.specs.Boxes.{boxOf}
 use Rattle.listing.specs.Rules.{triangles, nine}
 use Rattle.listing.specs.Words.{Verdicts, VerdictsBelow, onesBelow, ones, span, firstOf}
-use Rattle.listing.proofs.Parts.{part}
 use Rattle.listing.proofs.WordLaws.{verdicts-stored, ones-stored, few-below, few-ones}
 use Rattle.listing.proofs.deciding.decide_words.Statement.{statement}
 use Rattle.listing.proofs.deciding.decide_words.Tie as tie

@@ -6,6 +6,7 @@ use native.Mathlib.Omega.{arith}
 use borrow.Author.Needs.{needs}
 use lib.IntN.{ℤ}
 use lib.ListN.{length}
+use Rattle.algebra.proofs.Parts.{part, length-lent}
 use Rattle.shape.proofs.VerdictLaws.{says-no}
 use Rattle.kernel.specs.Grid.{Passed}
 use Rattle.kernel.specs.Meeting.{Judges}
@@ -13,7 +14,6 @@ use Rattle.kernel.specs.Spaces.{normalIn}
 use Rattle.listing.specs.Boxes.{boxesApart}
 use Rattle.listing.specs.Rules.{nine}
 use Rattle.listing.proofs.BoxLaws.{boxes-apart}
-use Rattle.listing.proofs.Parts.{part, length-lent}
 use Rattle.listing.proofs.deciding.pair_meets.Statement.{statement}
 use Rattle.listing.proofs.deciding.pair_meets.Tie as tie
 

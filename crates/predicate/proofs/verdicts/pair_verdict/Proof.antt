@@ -1,6 +1,7 @@
 -- `predicate::verdicts::pair_verdict` meets its contract: what the checks refuse is refused, and what they pass is judged by the definition.
 -- Assumes nothing.
 use borrow.Author.Needs.{needs}
+use Rattle.kernel.specs.Grid.{Passed}
 use Rattle.predicate.proofs.PairLaws.{found-fine, refused-by-checks, judged}
 use Rattle.predicate.proofs.verdicts.pair_verdict.Statement.{statement}
 use Rattle.predicate.proofs.verdicts.pair_verdict.Tie as tie
@@ -14,10 +15,14 @@ enum-known-why c = search needs
 enum-told : tie.Need-enum-told
 enum-told c = search needs
 
-triangles-meet-requires : tie.Need-triangles-meet-requires
-triangles-meet-requires c κs =
+-- Both triangles passed the checks.
+passed : (c : tie.After-enum-told) → let a = c .before .before .before .args in Passed 3 3 (a .first .now) × Passed 3 3 (a .second .now)
+passed c =
     let q = c .before .before in
     found-fine 3 3 3 (q .before .args .first .now) (q .before .args .second .now) (q .pair-checked .ensures) (c .enum-told .given .1)
+
+triangles-meet-requires : tie.Need-triangles-meet-requires
+triangles-meet-requires c κs = (passed c .0 .ready, passed c .1 .ready)
 
 verdict-requires : tie.Need-verdict-requires
 verdict-requires c κs = search needs
@@ -32,7 +37,7 @@ returns-2 c =
     let q = c .before .before .before .before in
     judged 3 3 3 (q .before .args .first .now) (q .before .args .second .now) (q .pair-checked .ensures) _ (c .before .before .enum-told .given .1)
     (c .verdict .ensures)
-    (c .before .triangles-meet .ensures)
+    (c .before .triangles-meet .ensures (passed (c .before .before) .0) (passed (c .before .before) .1))
 
 pub pair-verdict-spec : {M : Type 1} → statement M
 pair-verdict-spec =

@@ -1,5 +1,5 @@
 -- Parts of a list, as code takes them (from p up to p + k), and a list with a part put back. Assumes nothing.
-use mathlib.Core.Path.{_≡_, refl, sym, ap, _∙_}
+use mathlib.Core.Path.{_≡_, refl, sym, ap, _∙_, subst}
 use mathlib.Core.List.{List, [], _∷_, _++_}
 use Prim.Native.Nat.{ℕ, zero, suc, _+_, _-_, _*_, _≤_, _<_}
 use native.Mathlib.Omega.{arith}
@@ -36,10 +36,15 @@ module _ {X : Type 0} where
   put-before q j p n xs ys h g =
       sym (within-front q j p (putMid p n xs ys) h) ∙ ap (λ (l : List X). take j (drop q l)) (take-put p n xs ys g) ∙ within-front q j p xs h
 
-  -- Parts of k elements each, written one after the other: the first i are there, and so is the next.
+  -- Parts of k elements each, written one after the other: what holds of the first i, and of the next, holds of all that are there.
+  pub parts-hold : (k i n : ℕ) (xs new : List X) (P : ℕ → List X → Type 0) → k * i ≤ length xs → length new ≡ k → P i new →
+      ((j : ℕ) → j < i → P j (take k (drop (k * j) xs))) → (j : ℕ) → j < i + 1 → P j (take k (drop (k * j) (putMid (k * i) n xs new)))
+  parts-hold k i n xs new P inside long this earlier =
+      below-more (λ j. P j (take k (drop (k * j) (putMid (k * i) n xs new)))) i
+      (λ j h. subst (P j) (sym (put-before (k * j) k (k * i) n xs new (omega (arith, mul-le-mul-left k h)) inside)) (earlier j h))
+      (subst (P i) (sym (put-here (k * i) k n xs new inside long)) this)
+
+  -- As many parts as were written are those that f gives.
   pub parts-more : (k i n : ℕ) (xs new : List X) (f : ℕ → List X) → k * i ≤ length xs → length new ≡ k → new ≡ f i →
       ((j : ℕ) → j < i → take k (drop (k * j) xs) ≡ f j) → (j : ℕ) → j < i + 1 → take k (drop (k * j) (putMid (k * i) n xs new)) ≡ f j
-  parts-more k i n xs new f inside long this earlier =
-      below-more (λ j. take k (drop (k * j) (putMid (k * i) n xs new)) ≡ f j) i
-      (λ j h. put-before (k * j) k (k * i) n xs new (omega (arith, mul-le-mul-left k h)) inside ∙ earlier j h)
-      (put-here (k * i) k n xs new inside long ∙ this)
+  parts-more k i n xs new f = parts-hold k i n xs new (λ j l. l ≡ f j)
