@@ -1,0 +1,2 @@
+-- What the contracts of the moves cite.
+pub mod Moves
