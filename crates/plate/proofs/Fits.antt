@@ -1,0 +1,94 @@
+-- What holds of every history that calls made: how far its reach goes, and that the slots after each of its changes are fit. Assumes nothing.
+use mathlib.Core.Path.{_≡_, refl, sym, subst, _∙_}
+use mathlib.Core.List.{List, [], _∷_}
+use Prim.Native.Nat.{ℕ, zero, suc, _+_, _≤_}
+use native.Mathlib.Omega.{arith}
+use lib.IntN.{ℤ}
+use lib.ListN.{set, getD, length, drop, replicate, length-drop, length-set}
+use lib.Seq.{drop-drop, drop-nil}
+use Rattle.checks.specs.Answers.{served, refused, Check, fine, _then_}
+use Rattle.checks.proofs.AnswerLaws.{then-fine}
+use Rattle.plate.specs.Slots.{Slot, free, held}
+use Rattle.plate.specs.Changes.{Change, place, lift, shift, thrice, apply, replay}
+use Rattle.plate.specs.Rules.{lowest, leaves, partWithin, partPresent, partStays, changeChecks}
+use Rattle.plate.specs.Histories.{History, slotsOf, Call, change, undo, made, takenBack, outcome, next, run}
+use Rattle.plate.specs.Steps.{FitSlot, Fit}
+use Rattle.plate.proofs.Past.{long}
+use Rattle.plate.proofs.Sliding.{part-fits}
+use Rattle.plate.proofs.Placing.{not-above, place-passes, placed-passed}
+
+pub record Sound (h : History) : Type 0 where
+  pub near : h .reach ≤ 32
+  pub within : h .reach ≤ length (h .past)
+  pub fits : (n : ℕ) → Fit (replay (drop n (h .past)))
+
+-- ---- changes that the checks pass
+pub set-fits : (S : List Slot) (s : ℕ) (x : Slot) → Fit S → FitSlot x → Fit (set S s x)
+set-fits S s x fit f = record { long = length-set S s x ∙ fit .long; each = λ i. at S s i (fit .each i) }
+  where
+    at : (S : List Slot) (s i : ℕ) → FitSlot (getD S i free) → FitSlot (getD (set S s x) i free)
+    at [] s i g = g
+    at (y ∷ S) zero zero g = f
+    at (y ∷ S) zero (suc i) g = g
+    at (y ∷ S) (suc s) zero g = g
+    at (y ∷ S) (suc s) (suc i) g = at S s i g
+
+shift-stays : (S : List Slot) (q : ℕ) (dx dy dz : ℤ) → changeChecks S (shift q dx dy dz) ≡ fine →
+    length S ≤ lowest (leaves q (thrice dx dy dz)) S
+unfolding changeChecks
+shift-stays S q dx dy dz e =
+    let by = thrice dx dy dz in
+    let low = lowest (leaves q by) S in
+    let after-7 = then-fine (partWithin 0 q) (partPresent 0 S q then partStays S q by) e .1 in
+    not-above (length S) low 11 0 low (then-fine (partPresent 0 S q) (partStays S q by) after-7 .1)
+
+change-fits : (S : List Slot) (c : Change) → Fit S → changeChecks S c ≡ fine → Fit (apply S c)
+unfolding apply
+change-fits S (place s q numbers) fit e =
+    set-fits S s (held q numbers) fit (placed-passed s q numbers (place-passes S s q numbers e .0))
+change-fits S (lift s) fit e = set-fits S s free fit tt
+change-fits S (shift q dx dy dz) fit e = part-fits S q dx dy dz fit (shift-stays S q dx dy dz e)
+
+-- ---- the calls
+made-sound : (h : History) (c : Change) → Sound h → Fit (apply (slotsOf h) c) → Sound (made h c)
+unfolding replay
+made-sound h c a fit = record { near = omega arith; within = omega arith; fits = each }
+  where
+    each : (n : ℕ) → Fit (replay (drop n (c ∷ h .past)))
+    each zero = fit
+    each (suc n) = a .fits n
+
+back-sound : (h : History) (k : ℕ) → h .reach ≡ k → Sound h → Sound (next h (takenBack (h .past) k))
+back-sound h zero e a = a
+back-sound h (suc k) e a = record {
+  near = omega arith;
+  within = simp length-drop (omega arith);
+  fits = λ n. subst (λ (l : List Change). Fit (replay l)) (sym (drop-drop n 1 (h .past))) (a .fits (1 + n));
+}
+
+step-sound : (h : History) (c : Call) → Sound h → Sound (next h (outcome h c))
+unfolding outcome
+step-sound h (change c) a = by-check (changeChecks (slotsOf h) c) refl
+  where
+    by-check : (found : Check) → changeChecks (slotsOf h) c ≡ found → Sound (next h (found then served (made h c)))
+    by-check (served u) e = made-sound h c a (change-fits (slotsOf h) c (a .fits 0) e)
+    by-check (refused number side spot) e = a
+step-sound h undo a = back-sound h (h .reach) refl a
+
+start-fits : Fit (replay [])
+unfolding replay
+start-fits = record { long = long []; each = none 64 }
+  where
+    none : (n i : ℕ) → FitSlot (getD (replicate n free) i free)
+    none zero i = tt
+    none (suc n) zero = tt
+    none (suc n) (suc i) = none n i
+
+pub sound : (calls : List Call) → Sound (run calls)
+unfolding run
+sound [] = record {
+  near = omega arith;
+  within = omega arith;
+  fits = λ n. subst (λ (l : List Change). Fit (replay l)) (sym (drop-nil n)) start-fits;
+}
+sound (c ∷ before) = step-sound (run before) c (sound before)

@@ -1,0 +1,72 @@
+-- No second answer meets a promise on a plate that calls made: what a history leads to fixes the plate, and so the promises fix what is told
+-- and the plate afterwards. Assumes nothing.
+use mathlib.Core.Path.{_≡_, refl, sym, ap, _∙_}
+use mathlib.Core.Bool.{Bool}
+use mathlib.Core.List.{List}
+use Prim.Native.Nat.{ℕ}
+use Rattle.shape.specs.Verdicts.{Says}
+use Rattle.shape.proofs.VerdictLaws.{says-fixed}
+use Rattle.checks.specs.Answers.{Answer, served, refused, Check, fine, _then_}
+use Rattle.checks.specs.Told.{toldCheck}
+use Rattle.checks.specs.declared.grid.Checked.{Checked}
+use Rattle.checks.specs.declared.grid.Checked.the-variants.{Fine, Refused as CheckRefused}
+use Rattle.plate.specs.Rules.{partsChecks}
+use Rattle.plate.specs.Histories.{History, slotsOf, Call, outcome, run}
+use Rattle.plate.specs.Plates.{Stands, Answered, Promise, CountPromise, PartsPromise, MadeBy}
+use Rattle.plate.specs.declared.plates.Plate.{Plate}
+use Rattle.plate.specs.declared.calls.PlateAnswer.{PlateAnswer}
+use Rattle.plate.proofs.Clashing.{clashes-unique}
+use Rattle.plate.proofs.Demand.{demand-3}
+
+-- One plate stands for a history.
+pub stands-unique : {h : History} {p p′ : Plate} → Stands h p → Stands h p′ → p ≡ p′
+stands-unique s t =
+    let coords = s .coords ∙ sym (t .coords) in
+    let parts = s .parts ∙ sym (t .parts) in
+    let journal = s .journal ∙ sym (t .journal) in
+    let reach = s .reach ∙ sym (t .reach) in
+    let count = clashes-unique (s .count) (t .count) in
+    λ i. record { coords = coords i; parts = parts i; journal = journal i; reach = reach i; count = count i }
+
+-- Place, lift, shift and undo: what is told, and the plate afterwards.
+pub promise-unique : {calls : List Call} {p : Plate} {c : Call} (r r′ : PlateAnswer) → MadeBy calls p → Promise p c r → Promise p c r′ →
+    (toldCheck (r .told) ≡ toldCheck (r′ .told)) × (r .plate ≡ r′ .plate)
+promise-unique {calls} {p} {c} r r′ m k k′ =
+    let s = demand-3 m in by-outcome (outcome (run calls) c) (k .kept calls s) (k′ .kept calls s)
+  where
+    by-outcome : (o : Answer History) → Answered o p r → Answered o p r′ → (toldCheck (r .told) ≡ toldCheck (r′ .told)) × (r .plate ≡ r′ .plate)
+    by-outcome (served h) a b = (a .0 ∙ sym (b .0), stands-unique (a .1) (b .1))
+    by-outcome (refused number side spot) a b = (a .0 ∙ sym (b .0), a .1 ∙ sym (b .1))
+
+-- What a check tells fixes it, so that the two answers are one.
+checkedBack : Check → Checked
+checkedBack (served u) = Fine
+checkedBack (refused number side place) = CheckRefused (record { number = number; side = side; place = place })
+
+checked-back : (c : Checked) → checkedBack (toldCheck c) ≡ c
+unfolding checkedBack
+checked-back Fine = refl
+checked-back (CheckRefused why) = refl
+
+pub answer-unique : {calls : List Call} {p : Plate} {c : Call} (r r′ : PlateAnswer) → MadeBy calls p → Promise p c r → Promise p c r′ → r ≡ r′
+answer-unique r r′ m k k′ =
+    let same = promise-unique r r′ m k k′ in
+    let told = sym (checked-back (r .told)) ∙ ap checkedBack (same .0) ∙ checked-back (r′ .told) in
+    λ i. record { plate = same .1 i; told = told i }
+
+-- Parts.
+pub parts-unique : {calls : List Call} {plate : Plate} {p q : ℕ} {a b : Answer Bool} → MadeBy calls plate →
+    PartsPromise plate p q a → PartsPromise plate p q b → a ≡ b
+parts-unique {calls} {p} {q} m k k′ =
+    let s = demand-3 m in
+    let x = k .kept calls s in
+    let y = k′ .kept calls s in
+    x .told ∙ same (partsChecks (slotsOf (run calls)) p q) (x .right) (y .right) ∙ sym (y .told)
+  where
+    same : {v w : Bool} {Claim : Type 0} (c : Check) → (c ≡ fine → Says v Claim) → (c ≡ fine → Says w Claim) → (c then served v) ≡ (c then served w)
+    same (served u) f g = ap served (says-fixed (f refl) (g refl))
+    same (refused number side place) f g = refl
+
+-- Count: it is read off the plate, whatever the plate is.
+pub count-unique : {plate : Plate} {m n : ℕ} → CountPromise plate m → CountPromise plate n → m ≡ n
+count-unique k k′ = k .read ∙ sym (k′ .read)
