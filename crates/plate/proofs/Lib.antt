@@ -15,6 +15,7 @@
 -- and the theorems that stand beside the contracts:
 --   Faithful      the arrays tell the slots
 --   Demand        demand 3: a plate is the replay of the changes that stand, whatever calls made it
+--   Table         each reason exactly in the case that document 01 states
 --   Unique        no second answer and no second plate
 -- Assumes nothing.
 pub mod Searching
@@ -32,4 +33,5 @@ pub mod Outcomes
 pub mod PartsLaws
 pub mod Faithful
 pub mod Demand
+pub mod Table
 pub mod Unique
