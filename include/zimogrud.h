@@ -80,6 +80,35 @@ uint32_t zg_pair(const int32_t *a, size_t a_length, const int32_t *b, size_t b_l
 uint32_t zg_list(const int32_t *a, size_t a_length, const int32_t *b, size_t b_length, uint32_t *buffer, size_t buffer_length,
     size_t start, uint64_t *answer, size_t answer_length);
 
+/*
+ * A run of calls on a plate that is empty at first. Call k is told by calls[3k] to calls[3k + 2], and its
+ * coordinates are numbers[9k] to numbers[9k + 8]; what it doesn't take may be anything. Its six numbers are written to
+ * answers[6k] and after: refusal number, side, place, the count after it, the reach after it, and the value.
+ *
+ *     calls[3k]   the call   calls[3k + 1]   calls[3k + 2]   coordinates   refused with, the first counts
+ *     1           place      slot            part            the nine      6, 7, 1, 2, 8
+ *     2           lift       slot                                          6, 9
+ *     3           shift      part                            three: dx,    7, 10, 11
+ *                                                            dy, dz
+ *     4           undo                                                     12
+ *     5           parts      p               q                             7 for p, 7 for q, 10 for p, 10 for q
+ *
+ *     refusal   given where                                                          place
+ *     6         a slot is above 63                                                   the slot
+ *     7         a part is above 15                                                   the part
+ *     8         a place into a filled slot                                           the slot
+ *     9         a lift of an empty slot                                              the slot
+ *     10        no triangle of that part is on the plate                             the part
+ *     11        a shift would take a coordinate off the grid                         the lowest such slot
+ *     12        an undo at reach 0                                                   0
+ *
+ * Value: of parts 1 where they clash and 0 where they don't, or p is q; otherwise 0. Result: how many calls were done. These
+ * are all that `calls`, `numbers` and `answers` have room for, or those before the first of another kind than 1 to 5. All
+ * numbers of `answers` after theirs stay as they are.
+ */
+uint64_t zg_plate(const uint32_t *calls, size_t calls_length, const int32_t *numbers, size_t numbers_length, uint64_t *answers,
+    size_t answers_length);
+
 #ifdef __cplusplus
 }
 #endif

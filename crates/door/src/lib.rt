@@ -5,10 +5,12 @@
 // specs/Buffer.antt the result and the buffer afterwards, and proofs/Unique.antt shows that nothing else meets a contract.
 mod listings;
 mod numbers;
+mod plates;
 mod signs;
 mod verdicts;
 
 pub use listings::zg_list;
+pub use plates::zg_plate;
 pub use signs::zg_side;
 pub use signs::zg_turn;
 pub use verdicts::zg_flat;

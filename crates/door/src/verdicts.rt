@@ -11,7 +11,7 @@ ghost use Rattle.door.specs.Numbers.{verdictCode, fourNumbers, listed};
 ghost use Rattle.door.specs.Buffer.{VerdictWritten};
 
 // The numbers of a verdict call's answer.
-fn verdict_numbers(told: VerdictAnswer) -> Numbers
+pub fn verdict_numbers(told: VerdictAnswer) -> Numbers
     ensures { λ r. ⌜ listed r ≡ fourNumbers (withServed verdictCode (toldVerdict told)) ⌝ }
 {
     match told {
