@@ -1,6 +1,8 @@
 //! Own answers to every call, refusals included, as document 01 asks for them.
 
+pub mod clashes;
 pub mod listing;
+pub mod plate;
 
 use crate::geometry::axes::{self, Overlap};
 use crate::geometry::clipping::{self, Reach};

@@ -2,6 +2,8 @@
 //! Rows of triangles in the plane z = 0 are taken as flat pairs as well, with z left out. The rows of listings go on
 //! with bad lists, empty ones and the longest ones.
 
+pub mod stories;
+
 use crate::answers::listing::{JudgedLists, Listing, MOST_TRIANGLES};
 use crate::answers::{Answer, Outcome};
 use crate::call::Call;

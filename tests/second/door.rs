@@ -1,5 +1,5 @@
-//! The door: the functions of the library under check, and the room lent to them for an answer and for the pairs of a
-//! listing, filled with marks that show afterwards what was written and what was left.
+//! The door: the functions of the library under check, and the room lent to them for an answer, for the answers of a
+//! story and for the pairs of a listing, filled with marks that show afterwards what was written and what was left.
 //!
 //! The library is x86-64 code. A program for x86-64 has it linked in; any other reaches it through
 //! a relay. Both take a batch of questions and give a batch of replies. The flag `--cfg linked`
@@ -7,6 +7,7 @@
 
 mod lent;
 
+use crate::answers::plate::PlateAnswer;
 use crate::answers::Outcome;
 use crate::random::Random;
 use lent::{Lent, MARGIN};
@@ -22,6 +23,8 @@ mod relay;
 pub use relay::Door;
 
 pub const ANSWER_NUMBERS: usize = 4;
+/// Each call on the plate tells so many.
+pub const PLATE_ANSWER_NUMBERS: usize = 6;
 const LONGEST_ANSWER: usize = 8;
 
 /// All that is lent to be written. Only a listing gets the buffer; around the empty one of another call stand its
@@ -73,9 +76,12 @@ pub enum Function {
     Segment,
     Pair,
     List,
+    Plate,
 }
 
-/// A function with the lists and the room to lend it. `Turn` and `Side` take no second list.
+/// A function with the lists and the room to lend it. `Turn` and `Side` take no second list. `Plate` takes the numbers
+/// of its calls as the first list, unsigned ones bit for bit, its coordinates as the second, and its answers as the
+/// answer.
 pub struct Question<'a> {
     pub function: Function,
     pub first: &'a [i32],
@@ -88,7 +94,7 @@ pub struct Question<'a> {
 /// All that can be seen after a call.
 #[derive(PartialEq, Eq)]
 pub struct Reply {
-    pub result: u32,
+    pub result: u64,
     pub room: Room,
     /// The lent lists still hold the numbers they held before.
     pub lists_stayed: bool,
@@ -103,7 +109,18 @@ pub fn wanted_reply(outcome: &Outcome, start: u64, room: &Room) -> Reply {
         room.write(outcome, start);
     }
     Reply {
-        result: u32::from(short),
+        result: u64::from(short),
+        room,
+        lists_stayed: true,
+    }
+}
+
+/// What must be seen after a story with this room, given the right answers of the calls that are to be done.
+pub fn wanted_plate_reply(told: &[PlateAnswer], room: &Room) -> Reply {
+    let mut room = room.clone();
+    room.answer.write(0, told.iter().flat_map(PlateAnswer::numbers));
+    Reply {
+        result: told.len() as u64,
         room,
         lists_stayed: true,
     }

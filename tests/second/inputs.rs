@@ -1,16 +1,20 @@
 //! Random inputs of many kinds: tiny grids where special cases abound, the whole grid and its ends,
-//! shapes that touch or nearly do, and every kind of bad list.
+//! shapes that touch or nearly do, every kind of bad list, and stories of plates.
 
 mod faulty;
 mod listing;
 mod plane;
+mod pools;
 mod scenes;
 mod space;
+mod stories;
+mod teller;
 
 pub use faulty::LONGEST_BAD_LIST;
 pub use listing::{any_listing, tiny_listing};
 pub use plane::{any_flat_pair, any_turn, tiny_flat_pair};
 pub use space::{any_pair, any_segment, any_side, tiny_pair, tiny_segment};
+pub use stories::{any_story, tiny_story};
 
 use crate::answers::GRID;
 use crate::random::Random;

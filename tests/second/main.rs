@@ -1,5 +1,5 @@
-//! The second program: puts the bench rows of document 01 and many random inputs to the library
-//! under check, finds every answer by means of its own, and compares.
+//! The second program: puts the bench rows of document 01, many random inputs and many random stories of a plate to the
+//! library under check, finds every answer by means of its own, and compares.
 //!
 //! Exit status: 0 no disagreement; 1 a disagreement, a failure of the calls, or a case never met;
 //! 2 bad arguments, or no way to reach the library.
@@ -10,7 +10,9 @@ mod call;
 mod door;
 mod geometry;
 mod inputs;
+mod plates;
 mod random;
+mod story;
 mod tally;
 
 use call::Call;
@@ -19,9 +21,10 @@ use random::Random;
 use std::io::Write;
 use std::process::ExitCode;
 use std::time::{SystemTime, UNIX_EPOCH};
+use tally::plates::PlateTally;
 use tally::{Cases, Tally};
 
-const USAGE: &str = "usage: second [--pairs N] [--seed S] [--tiny]";
+const USAGE: &str = "usage: second [--pairs N] [--stories N] [--seed S] [--tiny]";
 const DEFAULT_PAIRS: u64 = 1_000_000;
 /// From this many pairs on, a case that never came up is a fault of the inputs.
 const PAIRS_THAT_MEET_ALL_CASES: u64 = 100_000;
@@ -30,11 +33,19 @@ const PAIRS_THAT_MEET_ALL_CASES: u64 = 100_000;
 const PAIRS_THAT_MEET_FINER_CASES: u64 = 1_000_000;
 /// A listing has many pairs, so there is one for so many pairs of each other kind.
 const PAIRS_TO_A_LISTING: u64 = 20;
+/// A story of a plate has many calls and each of them very many pairs, so there is one for so many pairs of each kind.
+const PAIRS_TO_A_STORY: u64 = 500;
+/// From this many stories on, a case of the plate that never came up is a fault of the stories.
+const STORIES_THAT_MEET_ALL_CASES: u64 = 500;
+/// The same of the finer cases, of which slot, part or coordinate it was and which fault hid which: the rarest comes up
+/// some thirty times in so many.
+const STORIES_THAT_MEET_FINER_CASES: u64 = 2_000;
 /// This many inputs go to the door at once.
 const BATCH: u64 = 1_000;
 
 struct Settings {
     pairs: u64,
+    stories: u64,
     seed: u64,
     tiny: bool,
 }
@@ -55,7 +66,10 @@ fn main() -> ExitCode {
         }
     };
     let tiny = if settings.tiny { " --tiny" } else { "" };
-    let run = format!("--pairs {} --seed {}{tiny}", settings.pairs, settings.seed);
+    let Settings {
+        pairs, stories, seed, ..
+    } = settings;
+    let run = format!("--pairs {pairs} --stories {stories} --seed {seed}{tiny}");
     say(&format!("second: {run}"));
     match compare_all(door, &settings) {
         Ok(last_line) => {
@@ -75,20 +89,23 @@ fn say(line: &str) {
 }
 
 fn read_arguments(mut arguments: impl Iterator<Item = String>) -> Result<Settings, String> {
-    let (mut pairs, mut seed, mut tiny) = (None, None, false);
+    let (mut pairs, mut stories, mut seed, mut tiny) = (None, None, None, false);
     while let Some(name) = arguments.next() {
         match name.as_str() {
             "--pairs" => pairs = Some(read_number(&name, arguments.next())?),
+            "--stories" => stories = Some(read_number(&name, arguments.next())?),
             "--seed" => seed = Some(read_number(&name, arguments.next())?),
             "--tiny" => tiny = true,
             _ => return Err(format!("unknown argument {name:?}")),
         }
     }
-    if pairs == Some(0) {
-        return Err("--pairs must be at least 1".to_string());
+    if pairs == Some(0) || stories == Some(0) {
+        return Err("--pairs and --stories must be at least 1".to_string());
     }
+    let pairs = pairs.unwrap_or(DEFAULT_PAIRS);
     Ok(Settings {
-        pairs: pairs.unwrap_or(DEFAULT_PAIRS),
+        pairs,
+        stories: stories.unwrap_or(pairs.div_ceil(PAIRS_TO_A_STORY)),
         seed: seed.unwrap_or_else(seed_from_clock),
         tiny,
     })
@@ -140,29 +157,50 @@ fn plans(settings: &Settings) -> Vec<Plan> {
 
 fn compare_all(mut door: Door, settings: &Settings) -> Result<String, String> {
     let rows = compare_bench(&mut door, settings.seed)?;
-    say(&format!("bench: {rows} rows compared"));
+    let stories = plates::compare_stored(&mut door, settings.seed)?;
+    say(&format!("bench: {rows} rows and {stories} stories compared"));
     let mut tallies = Vec::new();
     for (stream, plan) in (1..).zip(plans(settings)) {
         tallies.push(compare_many(&mut door, settings.seed, stream, plan)?);
     }
+    let plates = compare_stories(&mut door, settings)?;
     door.close()?;
     tallies.iter().for_each(|tally| say(&tally.line()));
-    if settings.pairs >= PAIRS_THAT_MEET_ALL_CASES {
-        let with_finer = settings.pairs >= PAIRS_THAT_MEET_FINER_CASES;
-        let missed = tallies
-            .iter()
-            .flat_map(|tally| tally.missed(!settings.tiny, with_finer));
-        let missed: Vec<String> = missed.collect();
-        if !missed.is_empty() {
-            return Err(format!("cases never met: {}", missed.join("; ")));
-        }
+    say(&plates.line());
+    let missed = missed_cases(settings, &tallies, &plates);
+    if !missed.is_empty() {
+        return Err(format!("cases never met: {}", missed.join("; ")));
     }
     let tiny = if settings.tiny { "tiny " } else { "" };
-    let counts: Vec<String> = tallies
-        .iter()
-        .map(|tally| format!("{} {tiny}{}", tally.compared, tally.inputs()))
+    let inputs = tallies.iter().map(|tally| (tally.compared, tally.inputs()));
+    let counts: Vec<String> = inputs
+        .chain([(plates.stories, "stories")])
+        .map(|(compared, inputs)| format!("{compared} {tiny}{inputs}"))
         .collect();
     Ok(format!("{}: no disagreement", counts.join(", ")))
+}
+
+fn compare_stories(door: &mut Door, settings: &Settings) -> Result<PlateTally, String> {
+    let any_story = if settings.tiny {
+        inputs::tiny_story
+    } else {
+        inputs::any_story
+    };
+    plates::compare_many(door, settings.seed, settings.stories, any_story)
+}
+
+/// The cases that never came up, of a run that is large enough for them. Tiny stories lack some by their nature.
+fn missed_cases(settings: &Settings, tallies: &[Tally], plates: &PlateTally) -> Vec<String> {
+    let mut missed = Vec::new();
+    if settings.pairs >= PAIRS_THAT_MEET_ALL_CASES {
+        let with_finer = settings.pairs >= PAIRS_THAT_MEET_FINER_CASES;
+        let tallies = tallies.iter();
+        missed.extend(tallies.flat_map(|tally| tally.missed(!settings.tiny, with_finer)));
+    }
+    if settings.stories >= STORIES_THAT_MEET_ALL_CASES && !settings.tiny {
+        missed.extend(plates.missed(settings.stories >= STORIES_THAT_MEET_FINER_CASES));
+    }
+    missed
 }
 
 /// Compares the door, and this program as well, with the fixed results.

@@ -6,15 +6,15 @@
  * A request is one frame. Its reply is the same frame, of the same size, as the call left it. All numbers in it are
  * little-endian:
  *
- *     bytes 0 to 3     the mark of a frame, 0x7a670002
- *     bytes 4 to 7     the call: 1 zg_turn, 2 zg_side, 3 zg_flat, 4 zg_segment, 5 zg_pair, 6 zg_list
- *     bytes 8 to 11    in a reply the result; in a request any number
- *     bytes 12 to 15   how many numbers each margin has
- *     bytes 16 to 19   how many numbers the first list has
- *     bytes 20 to 23   how many numbers the second list has; 0 for zg_turn and zg_side
- *     bytes 24 to 27   how many numbers the lent answer has
- *     bytes 28 to 31   how many numbers the lent buffer has; 0 for all but zg_list
- *     bytes 32 to 39   the start place, for zg_list only
+ *     bytes 0 to 7     the mark of a frame, 0x7a670003
+ *     bytes 8 to 15    in a reply the result; in a request any number
+ *     bytes 16 to 19   the call: 1 zg_turn, 2 zg_side, 3 zg_flat, 4 zg_segment, 5 zg_pair, 6 zg_list, 7 zg_plate
+ *     bytes 20 to 23   how many numbers each margin has
+ *     bytes 24 to 27   how many numbers the first list has; for zg_plate it holds the calls, bit for bit
+ *     bytes 28 to 31   how many numbers the second list has; 0 for zg_turn and zg_side
+ *     bytes 32 to 35   how many numbers the lent answer has, or the lent answers of zg_plate
+ *     bytes 36 to 39   how many numbers the lent buffer has; 0 for all but zg_list
+ *     bytes 40 to 47   the start place, for zg_list only
  *     then             a margin, the lent answer and a margin, unsigned 64-bit numbers
  *     then             a margin, the lent buffer and a margin, unsigned 32-bit numbers
  *     then             the first list and then the second, signed 32-bit numbers
@@ -30,20 +30,21 @@
  */
 #include "zimogrud.h"
 
-#define MARK 0x7a670002u
+#define MARK 0x7a670003u
 
-enum { TURN = 1, SIDE = 2, FLAT = 3, SEGMENT = 4, PAIR = 5, LIST = 6 };
+enum { TURN = 1, SIDE = 2, FLAT = 3, SEGMENT = 4, PAIR = 5, LIST = 6, PLATE = 7 };
 /* A listing has 2^20 pairs at most, of two numbers each. The block takes a frame with the longest of everything. */
-enum { LONGEST_LIST = 1 << 14, LONGEST_ANSWER = 64, LONGEST_MARGIN = 64, LONGEST_BUFFER = (1 << 21) + (1 << 14) };
+enum { LONGEST_LIST = 1 << 14, LONGEST_MARGIN = 64, LONGEST_BUFFER = (1 << 21) + (1 << 14) };
+enum { LONGEST_ANSWER = 64, LONGEST_PLATE_ANSWERS = 1 << 14 };
 enum { BLOCK_BYTES = 1 << 24 };
 enum { ALL_SERVED = 0, MALFORMED = 1, NO_PIPE = 2 };
 enum { SYSTEM_READ = 0, SYSTEM_WRITE = 1, SYSTEM_EXIT = 231 };
 enum { STANDARD_INPUT = 0, STANDARD_OUTPUT = 1, INTERRUPTED = -4 };
 
 struct head {
-    uint32_t mark;
+    uint64_t mark;
+    uint64_t result;
     uint32_t call;
-    uint32_t result;
     uint32_t margin;
     uint32_t first_length;
     uint32_t second_length;
@@ -133,9 +134,10 @@ static int is_well_formed(const struct head *head)
 {
     uint32_t longest_second = head->call >= FLAT ? LONGEST_LIST : 0;
     uint32_t longest_buffer = head->call == LIST ? LONGEST_BUFFER : 0;
-    return head->mark == MARK && head->call >= TURN && head->call <= LIST && head->margin <= LONGEST_MARGIN
+    uint32_t longest_answer = head->call == PLATE ? LONGEST_PLATE_ANSWERS : LONGEST_ANSWER;
+    return head->mark == MARK && head->call >= TURN && head->call <= PLATE && head->margin <= LONGEST_MARGIN
         && head->first_length <= LONGEST_LIST && head->second_length <= longest_second
-        && head->answer_length <= LONGEST_ANSWER && head->buffer_length <= longest_buffer;
+        && head->answer_length <= longest_answer && head->buffer_length <= longest_buffer;
 }
 
 /* How many numbers a lent run has with its margins. */
@@ -152,7 +154,7 @@ static size_t frame_size(const struct head *head)
     return sizeof *head + answer_bytes + (buffer_bytes + list_bytes + 7) / 8 * 8;
 }
 
-static uint32_t make_call(const struct head *head, unsigned char *frame)
+static uint64_t make_call(const struct head *head, unsigned char *frame)
 {
     uint64_t *answer_room = (uint64_t *)(frame + sizeof *head);
     uint32_t *buffer_room = (uint32_t *)(answer_room + with_margins(head, head->answer_length));
@@ -171,9 +173,12 @@ static uint32_t make_call(const struct head *head, unsigned char *frame)
         return zg_segment(first, head->first_length, second, head->second_length, answer, head->answer_length);
     case PAIR:
         return zg_pair(first, head->first_length, second, head->second_length, answer, head->answer_length);
-    default:
+    case LIST:
         return zg_list(first, head->first_length, second, head->second_length, buffer, head->buffer_length, head->start,
             answer, head->answer_length);
+    default:
+        return zg_plate((const uint32_t *)first, head->first_length, second, head->second_length, answer,
+            head->answer_length);
     }
 }
 
@@ -189,7 +194,7 @@ static size_t serve(unsigned char *frame, size_t arrived)
     size_t size = frame_size(&head);
     if (arrived < size)
         return 0;
-    uint32_t result = make_call(&head, frame);
+    uint64_t result = make_call(&head, frame);
     memcpy(frame + offsetof(struct head, result), &result, sizeof result);
     return size;
 }

@@ -2,6 +2,7 @@
 
 mod listings;
 mod meetings;
+pub mod plates;
 
 use crate::answers::{ListFaults, Opinion, OFF_GRID, START_BEYOND_END, WRONG_LENGTH};
 use crate::answers::{FLAT_TRIANGLE_NUMBERS, SEGMENT_NUMBERS, SIDE_NUMBERS, TRIANGLE_NUMBERS, TURN_NUMBERS};

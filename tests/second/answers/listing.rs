@@ -149,7 +149,7 @@ fn pairs_by_both(first: &Distinct, second: &Distinct) -> (Pairs, Pairs) {
     (pairs, second_pairs)
 }
 
-fn meet(one: &Triangle, other: &Triangle) -> [bool; 2] {
+pub fn meet(one: &Triangle, other: &Triangle) -> [bool; 2] {
     let by_edges = reaches(one, other) != [Reach::Nothing; 2];
     let by_axes = axes::overlap(one, other) != Overlap::Apart;
     [by_edges, by_axes]

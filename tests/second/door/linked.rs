@@ -20,6 +20,14 @@ extern "C" {
         answer: *mut u64,
         answer_len: usize,
     ) -> u32;
+    fn zg_plate(
+        calls: *const u32,
+        calls_len: usize,
+        numbers: *const i32,
+        numbers_len: usize,
+        answers: *mut u64,
+        answers_len: usize,
+    ) -> u64;
 }
 
 pub struct Door;
@@ -48,14 +56,15 @@ fn reply_to(question: &Question) -> Reply {
     let (buffer, buffer_len) = lent_pointer(&mut room.buffer);
     let start = question.start as usize;
     // SAFETY: each pointer leads to as many numbers as are named, and nothing else uses them meanwhile.
-    let result = unsafe {
+    let result: u64 = unsafe {
         match question.function {
-            Function::Turn => zg_turn(a, a_len, answer, answer_len),
-            Function::Side => zg_side(a, a_len, answer, answer_len),
-            Function::Flat => zg_flat(a, a_len, b, b_len, answer, answer_len),
-            Function::Segment => zg_segment(a, a_len, b, b_len, answer, answer_len),
-            Function::Pair => zg_pair(a, a_len, b, b_len, answer, answer_len),
-            Function::List => zg_list(a, a_len, b, b_len, buffer, buffer_len, start, answer, answer_len),
+            Function::Turn => zg_turn(a, a_len, answer, answer_len).into(),
+            Function::Side => zg_side(a, a_len, answer, answer_len).into(),
+            Function::Flat => zg_flat(a, a_len, b, b_len, answer, answer_len).into(),
+            Function::Segment => zg_segment(a, a_len, b, b_len, answer, answer_len).into(),
+            Function::Pair => zg_pair(a, a_len, b, b_len, answer, answer_len).into(),
+            Function::List => zg_list(a, a_len, b, b_len, buffer, buffer_len, start, answer, answer_len).into(),
+            Function::Plate => zg_plate(a.cast(), a_len, b, b_len, answer, answer_len),
         }
     };
     Reply {

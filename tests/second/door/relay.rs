@@ -4,9 +4,9 @@
 //! A question is one frame, and its reply is the same frame, of the same size, as the call left
 //! it. All numbers in it are little-endian:
 //!
-//! - the head, eight unsigned 32-bit numbers and an unsigned 64-bit number: a mark; 1 to 6 for turn, side, flat,
-//!   segment, pair or list; the result (any number in a question); the length of a margin; the lengths of the first
-//!   list, the second list, the lent answer and the lent buffer; and the start place of a listing;
+//! - the head: a mark and the result (any number in a question), unsigned 64-bit numbers; 1 to 7 for turn, side, flat,
+//!   segment, pair, list or plate, the length of a margin, and the lengths of the first list, the second list, the lent
+//!   answer and the lent buffer, unsigned 32-bit numbers; and the start place of a listing, an unsigned 64-bit number;
 //! - the lent answer between two margins, unsigned 64-bit numbers;
 //! - the lent buffer between two margins, unsigned 32-bit numbers;
 //! - the first list and then the second, signed 32-bit numbers;
@@ -18,11 +18,11 @@ use std::process::{Child, ChildStdin, ChildStdout, Command, Stdio};
 
 const COMMAND_VARIABLE: &str = "ZG_RELAY";
 
-const FRAME_MARK: u32 = 0x7a67_0002;
-const HEAD_BYTES: usize = 8 * 4 + 8;
-const RESULT_AT: usize = 2 * 4;
+const FRAME_MARK: u64 = 0x7a67_0003;
+const HEAD_BYTES: usize = 2 * 8 + 6 * 4 + 8;
+const RESULT_AT: usize = 8;
 /// Stands where the result will be: the relay has to write over it.
-const NO_RESULT: u32 = u32::MAX;
+const NO_RESULT: u64 = u64::MAX;
 
 pub struct Door {
     relay: Child,
@@ -123,14 +123,19 @@ fn push_frame(bytes: &mut Vec<u8>, question: &Question) -> usize {
         Function::Segment => 4,
         Function::Pair => 5,
         Function::List => 6,
+        Function::Plate => 7,
     };
     let (answer_length, buffer_length) = (room.answer.length(), room.buffer.length());
-    let lengths = [MARGIN, first.len(), second.len(), answer_length, buffer_length];
-    for number in [FRAME_MARK, function, NO_RESULT] {
-        bytes.extend(number.to_le_bytes());
-    }
-    for length in lengths {
-        bytes.extend((length as u32).to_le_bytes());
+    bytes.extend([FRAME_MARK, NO_RESULT].map(u64::to_le_bytes).concat());
+    for number in [
+        function,
+        MARGIN,
+        first.len(),
+        second.len(),
+        answer_length,
+        buffer_length,
+    ] {
+        bytes.extend((number as u32).to_le_bytes());
     }
     bytes.extend(question.start.to_le_bytes());
     for number in &room.answer.numbers {
@@ -148,11 +153,11 @@ fn push_frame(bytes: &mut Vec<u8>, question: &Question) -> usize {
 }
 
 fn read_frame(question: &Question, sent: &[u8], got: &[u8]) -> Result<Reply, String> {
-    let after_result = RESULT_AT + 4;
+    let after_result = RESULT_AT + 8;
     if got[..RESULT_AT] != sent[..RESULT_AT] || got[after_result..HEAD_BYTES] != sent[after_result..HEAD_BYTES] {
         return Err("a call wrote far outside all that was lent, over the head of a frame".to_string());
     }
-    let result = u32::from_le_bytes(bytes_at(got, RESULT_AT));
+    let result = u64::from_le_bytes(bytes_at(got, RESULT_AT));
     let (answer_numbers, buffer_numbers) = (question.room.answer.numbers.len(), question.room.buffer.numbers.len());
     let buffer_at = HEAD_BYTES + 8 * answer_numbers;
     let lists_at = buffer_at + 4 * buffer_numbers;
