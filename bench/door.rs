@@ -15,6 +15,14 @@ extern "C" {
         answer: *mut u64,
         answer_len: usize,
     ) -> u32;
+    fn zg_plate(
+        calls: *const u32,
+        calls_len: usize,
+        numbers: *const i32,
+        numbers_len: usize,
+        answers: *mut u64,
+        answers_len: usize,
+    ) -> u64;
 }
 
 pub fn pair(first: &[i32], second: &[i32]) -> Answer {
@@ -50,6 +58,21 @@ pub fn list(first: &[i32], second: &[i32], buffer: &mut [u32], start: usize) -> 
         )
     };
     told_answer(result, numbers)
+}
+
+/// Makes the calls one after the other on an empty plate, and gives how many were made.
+pub fn plate(calls: &[u32], numbers: &[i32], answers: &mut [u64]) -> u64 {
+    // SAFETY: each pointer leads to as many numbers as are named, and nothing else uses them meanwhile.
+    unsafe {
+        zg_plate(
+            calls.as_ptr(),
+            calls.len(),
+            numbers.as_ptr(),
+            numbers.len(),
+            answers.as_mut_ptr(),
+            answers.len(),
+        )
+    }
 }
 
 fn told_answer(result: u32, [number, side, place, value]: [u64; 4]) -> Answer {

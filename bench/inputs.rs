@@ -1,7 +1,9 @@
 //! The pairs: three kinds that are timed, each from a seed of its own, and faulty ones. The listings'
-//! inputs, in `lists`, are made of triangles of these kinds, and of surfaces.
+//! inputs, in `lists`, are made of triangles of these kinds, and of surfaces; the plates' inputs, in
+//! `plates`, of calls about such triangles.
 
 pub mod lists;
+pub mod plates;
 mod surfaces;
 
 use crate::ordinary::{self, GRID, TRIANGLE_NUMBERS};

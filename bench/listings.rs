@@ -4,7 +4,7 @@
 use crate::door;
 use crate::inputs::lists::{self, Input, Question};
 use crate::ordinary::{listing, Answer, TRIANGLE_NUMBERS};
-use crate::timing::{best_of, nanoseconds_a_pair, say};
+use crate::timing::{best_of, nanoseconds_each, say};
 use std::hint::black_box;
 
 /// A listing is long, so fewer rounds do than for the pairs.
@@ -143,7 +143,7 @@ fn timed_ratio(input: &Input, count: usize) -> f64 {
 }
 
 fn time_for(input: &Input, buffer: &mut [u32], list: Contender) -> f64 {
-    nanoseconds_a_pair(all_pairs(input), || {
+    nanoseconds_each(all_pairs(input), || {
         let (first, second) = (black_box(&input.first), black_box(&input.second));
         black_box(list(first, second, black_box(buffer), 0));
     })

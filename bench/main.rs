@@ -1,16 +1,21 @@
-//! The benchmark: times calls of libdoor.a beside ordinary code with 128-bit numbers that does the
-//! same job by the same method, on the same inputs in the same run, and gives the ratio of the two.
-//! The ordinary code with 64-bit numbers is timed too, to show what of that is due to the width of
-//! the numbers alone. The calls are `zg_pair` ("pairs") and `zg_list` ("listings").
+//! The benchmark: times calls of libdoor.a beside ordinary code that does the same job by the same
+//! method, on the same inputs in the same run, and gives the ratio of the two. The calls are `zg_pair`
+//! ("pairs"), `zg_list` ("listings") and `zg_plate` ("plates").
+//!
+//! For the pairs and the listings the ordinary code has 128-bit numbers. With 64-bit numbers it is
+//! timed too, to show what of that is due to the width of the numbers alone. For the plates it has
+//! 64-bit numbers. A plate that recounts all pairs at each call is timed too, to show what keeping the
+//! count gains. With --check nothing is timed: a part of the plates' inputs is compared.
 //!
 //! Exit status: 0 all agree; 1 two answers differ, or a ratio of the door is above what --at-most
-//! allows for the pairs, or with --goals above the goal of a listing; 2 bad arguments.
+//! allows for the pairs, or with --goals above the goal of a listing or a plate; 2 bad arguments.
 
 mod door;
 mod inputs;
 mod listings;
 mod ordinary;
 mod pairs;
+mod plates;
 #[allow(dead_code)] // the second program asks it for more
 #[path = "../tests/second/random.rs"]
 mod random;
@@ -19,28 +24,33 @@ mod timing;
 use std::process::ExitCode;
 use timing::say;
 
-const USAGE: &str = "usage: bench [pairs] [listings] [--at-most RATIO] [--goals]";
+const USAGE: &str = "usage: bench [pairs] [listings] [plates] [--at-most RATIO] [--goals] | --check";
 
 /// What is to be timed, and how it is judged.
 #[derive(Default)]
 struct Asked {
     pairs: bool,
     listings: bool,
+    plates: bool,
     /// The highest ratio that is allowed for the pairs.
     at_most: Option<f64>,
-    /// Whether each listing has to reach its goal.
+    /// Whether each listing and each plate that is timed has to reach its goal.
     goals: bool,
 }
 
 fn main() -> ExitCode {
-    let asked = match read_arguments(std::env::args().skip(1)) {
+    let arguments: Vec<String> = std::env::args().skip(1).collect();
+    if arguments == ["--check"] {
+        return status(told(plates::compare()));
+    }
+    let asked = match read_arguments(arguments.into_iter()) {
         Ok(asked) => asked,
         Err(message) => {
             eprintln!("bench: {message}; {USAGE}");
             return ExitCode::from(2);
         }
     };
-    // Both are run even if the first fails, and each says its last line as soon as it has it.
+    // All are run even if one fails, and each says its last line as soon as it has it.
     let mut all_well = true;
     if asked.pairs {
         all_well &= told(pairs::compare_and_time(asked.at_most.unwrap_or(f64::INFINITY)));
@@ -48,6 +58,13 @@ fn main() -> ExitCode {
     if asked.listings {
         all_well &= told(listings::compare_and_time(asked.goals));
     }
+    if asked.plates {
+        all_well &= told(plates::compare_and_time(asked.goals));
+    }
+    status(all_well)
+}
+
+fn status(all_well: bool) -> ExitCode {
     if all_well {
         ExitCode::SUCCESS
     } else {
@@ -68,20 +85,21 @@ fn read_arguments(mut arguments: impl Iterator<Item = String>) -> Result<Asked, 
         match name.as_str() {
             "pairs" => asked.pairs = true,
             "listings" => asked.listings = true,
+            "plates" => asked.plates = true,
             "--at-most" => asked.at_most = Some(read_ratio(&arguments.next().unwrap_or_default())?),
             "--goals" => asked.goals = true,
             _ => return Err(format!("unknown argument {name:?}")),
         }
     }
-    if !asked.pairs && !asked.listings {
-        (asked.pairs, asked.listings) = (true, true);
+    if !asked.pairs && !asked.listings && !asked.plates {
+        (asked.pairs, asked.listings, asked.plates) = (true, true, true);
     }
     // A limit on what is not timed would be kept whatever happens.
     if asked.at_most.is_some() && !asked.pairs {
         return Err("--at-most is for the pairs".into());
     }
-    if asked.goals && !asked.listings {
-        return Err("--goals is for the listings".into());
+    if asked.goals && !asked.listings && !asked.plates {
+        return Err("--goals is for the listings and the plates".into());
     }
     Ok(asked)
 }

@@ -1,13 +1,14 @@
 //! The yardstick: an ordinary pair test, written for reading. It takes what `zg_pair` takes, makes
 //! the same checks in the same order, decides by the same method ("The method of document 000" in
 //! document 01, step by step) and gives the same four numbers. The ordinary listing, in `listing`,
-//! stands to `zg_list` in the same way.
+//! stands to `zg_list` in the same way, and the ordinary plate, in `plate`, to `zg_plate`.
 //!
 //! Every difference, product and determinant is a number of the type `W`: i128, or i64, in which
 //! everything on the grid fits as well.
 
 mod flat;
 pub mod listing;
+pub mod plate;
 
 use std::cmp::Ordering::{Equal, Greater, Less};
 use std::ops::{Add, Mul, Sub};

@@ -3,7 +3,7 @@
 use crate::door;
 use crate::inputs::{self, Input, Pair};
 use crate::ordinary::{self, Answer};
-use crate::timing::{best_of, nanoseconds_a_pair, say};
+use crate::timing::{best_of, nanoseconds_each, say};
 use std::hint::black_box;
 
 const ROUNDS: usize = 101;
@@ -65,7 +65,7 @@ fn timed_ratio(input: &Input, meeting: u64) -> f64 {
 }
 
 fn time_for(pairs: &[Pair], test: impl Fn(&[i32], &[i32]) -> Answer) -> f64 {
-    nanoseconds_a_pair(pairs.len(), || {
+    nanoseconds_each(pairs.len(), || {
         for pair in pairs {
             black_box(test(black_box(&pair.first[..]), black_box(&pair.second[..])));
         }

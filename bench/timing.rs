@@ -17,11 +17,11 @@ pub fn best_of<const CONTENDERS: usize>(
     best
 }
 
-/// What a piece of work over so many pairs takes for each.
-pub fn nanoseconds_a_pair(pairs: usize, work: impl FnOnce()) -> f64 {
+/// What a piece of work over so many pairs, or calls, takes for each.
+pub fn nanoseconds_each(count: usize, work: impl FnOnce()) -> f64 {
     let start = Instant::now();
     work();
-    start.elapsed().as_nanos() as f64 / pairs as f64
+    start.elapsed().as_nanos() as f64 / count as f64
 }
 
 /// A reader that stops listening must not change the exit status, so a failed write is passed over.

@@ -66,14 +66,14 @@ fn is_served(triangle: &List) -> bool {
     ordinary::pair::<i128>(triangle, triangle).number == 0
 }
 
-fn small_triangle(random: &mut Random) -> List {
+pub fn small_triangle(random: &mut Random) -> List {
     let mut list = box_list(random, -SMALL_HALF, SMALL_HALF);
     spread(random, &mut list);
     list
 }
 
 /// Every second triangle or so lies in one plane, so that every fourth pair or so does.
-fn tiny_triangle(random: &mut Random) -> List {
+pub fn tiny_triangle(random: &mut Random) -> List {
     let mut list = box_list(random, 0, TINY_END);
     if random.once_in(2) {
         for corner in list.chunks_mut(3) {

@@ -1,0 +1,150 @@
+//! The plates: compares the answers of `zg_plate` with those of the ordinary plate that keeps its count
+//! and of the one that recounts all pairs at each call, and times the three.
+
+use crate::door;
+use crate::inputs::plates::{self, Input, Run};
+use crate::ordinary::plate::kept::Kept;
+use crate::ordinary::plate::recounted::Recounted;
+use crate::ordinary::plate::{run, ANSWER_NUMBERS, CALL_NUMBERS};
+use crate::ordinary::TRIANGLE_NUMBERS;
+use crate::timing::{best_of, nanoseconds_each, say};
+use std::hint::black_box;
+
+/// As for the listings.
+const ROUNDS: usize = 15;
+/// The plate that recounts takes many times as long as the others, so that a few rounds show it.
+const RECOUNTED_ROUNDS: usize = 3;
+/// So many calls of each run are compared where nothing is timed.
+const QUICK_CALLS: usize = 1_000;
+/// What the numbers of the answers are before the run. No answer has so high a number.
+const UNWRITTEN: u64 = u64::MAX;
+
+type Contender = fn(&[u32], &[i32], &mut [u64]) -> u64;
+
+/// The last line to print. It is an error where two answers differ, or where each goal has to be
+/// reached and one is not.
+pub fn compare_and_time(goals: bool) -> Result<String, String> {
+    let inputs = plates::timed();
+    let tallies: Vec<Tally> = inputs.iter().map(agreed_tally).collect::<Result<_, _>>()?;
+    compare_faulty()?;
+    let reached = inputs
+        .iter()
+        .zip(tallies)
+        .filter(|(input, tally)| timed_ratio(input, tally) <= input.goal)
+        .count();
+    let line = format!("all plates agree; {reached} of {} goals are reached", inputs.len());
+    if goals && reached < inputs.len() {
+        return Err(line);
+    }
+    Ok(line)
+}
+
+/// Compares the faulty runs and the first calls of those that are timed otherwise. The last line to
+/// print.
+pub fn compare() -> Result<String, String> {
+    for mut input in plates::timed() {
+        input.run.calls.truncate(QUICK_CALLS * CALL_NUMBERS);
+        agreed_tally(&input)?;
+    }
+    compare_faulty()?;
+    Ok("all plates agree; nothing is timed".into())
+}
+
+// ---- The comparison ----
+
+/// What the answers tell of a run that is timed.
+struct Tally {
+    calls: usize,
+    refused: usize,
+    /// The count after a call, on average.
+    mean_count: f64,
+}
+
+/// The tally of an input, if all contenders agree on every call.
+fn agreed_tally(input: &Input) -> Result<Tally, String> {
+    let calls = input.run.calls.len() / CALL_NUMBERS;
+    let answers =
+        agreed_answers(&input.run, calls * ANSWER_NUMBERS).map_err(|message| format!("{}: {message}", input.name))?;
+    let each = || answers.chunks_exact(ANSWER_NUMBERS);
+    Ok(Tally {
+        calls,
+        refused: each().filter(|answer| answer[0] != 0).count(),
+        mean_count: each().map(|answer| answer[3] as f64).sum::<f64>() / calls as f64,
+    })
+}
+
+fn compare_faulty() -> Result<(), String> {
+    for question in plates::faulty() {
+        agreed_answers(&question.run, question.answers_length)?;
+    }
+    Ok(())
+}
+
+/// The answers, if all contenders make as many calls and leave the same numbers.
+fn agreed_answers(asked: &Run, answers_length: usize) -> Result<Vec<u64>, String> {
+    let outcome = |contender: Contender| {
+        let mut answers = vec![UNWRITTEN; answers_length];
+        let made = contender(&asked.calls, &asked.numbers, &mut answers);
+        (made, answers)
+    };
+    let kept = outcome(run::<Kept>);
+    for (name, contender) in [("door", door::plate as Contender), ("recounted", run::<Recounted>)] {
+        let other = outcome(contender);
+        if other != kept {
+            return Err(difference(asked, name, other, kept));
+        }
+    }
+    Ok(kept.1)
+}
+
+type Outcome = (u64, Vec<u64>);
+
+/// Tells the first call on which the two differ. The last of the numbers may be too few for a call.
+fn difference(asked: &Run, name: &str, other: Outcome, kept: Outcome) -> String {
+    let place = (0..kept.1.len()).find(|&k| other.1[k] != kept.1[k]);
+    let made = other.0.min(kept.0) as usize;
+    let call = place.map_or(made, |place| place / ANSWER_NUMBERS);
+    let told_outcome =
+        |(made, answers): Outcome| format!("{made} calls made, answer {:?}", part(&answers, call, ANSWER_NUMBERS));
+    format!(
+        "the plates differ:\n  call {call} of the run {:?}\n  its numbers {:?}\n  {name} {}\n  64-bit {}",
+        part(&asked.calls, call, CALL_NUMBERS),
+        part(&asked.numbers, call, TRIANGLE_NUMBERS),
+        told_outcome(other),
+        told_outcome(kept),
+    )
+}
+
+/// The numbers of one call, as far as there are any.
+fn part<Number>(numbers: &[Number], call: usize, each: usize) -> &[Number] {
+    numbers.chunks(each).nth(call).unwrap_or_default()
+}
+
+// ---- The times ----
+
+/// Times one input, prints its line and gives the door's ratio.
+fn timed_ratio(input: &Input, tally: &Tally) -> f64 {
+    let mut answers = vec![UNWRITTEN; tally.calls * ANSWER_NUMBERS];
+    let mut time = |contender: Contender| time_for(input, tally.calls, &mut answers, contender);
+    let [door, kept] = best_of(ROUNDS, || [time(door::plate), time(run::<Kept>)]);
+    let [recounted] = best_of(RECOUNTED_ROUNDS, || [time(run::<Recounted>)]);
+    let ratio = door / kept;
+    say(&format!(
+        "{}, {} calls, {} refused, count {:.0} on average: door {door:.1} ns a call, 64-bit {kept:.1} ns, ratio {ratio:.3}, goal {} (recounting all pairs {recounted:.1} ns, ratio {:.2}, which is {:.1} times the door)",
+        input.name,
+        tally.calls,
+        tally.refused,
+        tally.mean_count,
+        input.goal,
+        recounted / kept,
+        recounted / door,
+    ));
+    ratio
+}
+
+fn time_for(input: &Input, calls: usize, answers: &mut [u64], contender: Contender) -> f64 {
+    nanoseconds_each(calls, || {
+        let Run { calls, numbers } = black_box(&input.run);
+        black_box(contender(calls, numbers, black_box(answers)));
+    })
+}
