@@ -1,9 +1,12 @@
-// The bench table of document 01, as the compiled calls answer it: one line a row, as far as the calls go that there are so
-// far. What it prints is compared with the file `stdout` beside this folder.
+// The bench table of document 01, as the compiled calls answer it: one line a row, then further rows of each call. What it prints
+// is compared with the file `stdout` beside this folder.
 ghost use mathlib.Core.Path.{_≡_};
 ghost use lib.IntN.{natAbs};
+use checks::Checked;
 use libc::STDOUT_FILENO;
 use listing::ListAnswer;
+use plate::Plate;
+use plate::PlateAnswer;
 use predicate::Refusal;
 use predicate::Sign;
 use predicate::SignAnswer;
@@ -20,6 +23,11 @@ const A: [i32; 9] = [0, 0, 0, 4, 0, 0, 0, 4, 0];
 const FIRST: [i32; 18] = [0, 0, 0, 4, 0, 0, 0, 4, 0, 1, 1, 1, 2, 1, 1, 1, 2, 1];
 
 const SECOND: [i32; 18] = [1, 1, -1, 1, 1, 1, 5, 5, 1, 4, 0, 0, 5, 0, 1, 5, 1, 1];
+
+// P1's second triangle, which meets A, and P2's second, which meets P1's but not A.
+const ACROSS: [i32; 9] = [1, 1, -1, 1, 1, 1, 5, 5, 1];
+
+const ABOVE: [i32; 9] = [1, 1, 1, 2, 1, 1, 1, 2, 1];
 
 fn say(text: &[u8]) {
     io::write_all(STDOUT_FILENO, text);
@@ -151,9 +159,79 @@ fn list_row(row: &[u8], first: &[i32], second: &[i32], start: usize) {
     say(b"\n");
 }
 
-// Document 01's rows of verdicts.
-fn verdict_table_rows() {
-    say(b"Rows of the bench table\n");
+// A call's count in a row of counts, or why it was refused; gives the plate back.
+fn counted(answer: PlateAnswer) -> Plate {
+    let told = answer.told;
+    let plate = answer.plate;
+    match told {
+        Checked::Refused(why) => {
+            say(b"; ");
+            say_refusal(why);
+        }
+        Checked::Fine => {
+            say(b" ");
+            say_count(plate::count(plate) as u64);
+        }
+    }
+    plate
+}
+
+fn say_told(told: Checked) {
+    match told {
+        Checked::Refused(why) => say_refusal(why),
+        Checked::Fine => say(b"served"),
+    }
+}
+
+// The clash count of a plate and how many changes undo can still take back.
+fn say_plate(plate: Plate) {
+    say(b"count ");
+    say_count(plate::count(plate) as u64);
+    say(b", reach ");
+    say_count(plate::reach(plate) as u64);
+    say(b"\n");
+}
+
+// The end of a row: what a call on a plate answered, and the plate afterwards, which is given back.
+fn plate_told(answer: PlateAnswer) -> Plate {
+    let told = answer.told;
+    let plate = answer.plate;
+    say(b": ");
+    say_told(told);
+    say(b"; ");
+    say_plate(plate);
+    plate
+}
+
+fn place_row(row: &[u8], plate: Plate, slot: usize, part: usize, triangle: &[i32]) -> Plate {
+    say(row);
+    plate_told(plate::place(plate, slot, part, triangle))
+}
+
+fn lift_row(row: &[u8], plate: Plate, slot: usize) -> Plate {
+    say(row);
+    plate_told(plate::lift(plate, slot))
+}
+
+fn shift_row(row: &[u8], plate: Plate, part: usize, dx: i32, dy: i32, dz: i32) -> Plate {
+    say(row);
+    plate_told(plate::shift(plate, part, dx, dy, dz))
+}
+
+fn undo_row(row: &[u8], plate: Plate) -> Plate {
+    say(row);
+    plate_told(plate::undo(plate))
+}
+
+fn parts_row(row: &[u8], plate: Plate, p: usize, q: usize) {
+    say(row);
+    say(b": ");
+    say_verdict(plate::parts(plate, p, q));
+    say(b"\n");
+}
+
+// Document 01's rows of verdicts. A function's rows weigh on each other's proofs, so no function has many.
+fn table_rows_1_to_3() {
     pair_row(
         b"P1   A; (1,1,-1) (1,1,1) (5,5,1)",
         &A,
@@ -169,6 +247,9 @@ fn verdict_table_rows() {
         &A,
         &[4, 0, 0, 5, 0, 1, 5, 1, 1],
     );
+}
+
+fn table_rows_4_to_6() {
     pair_row(
         b"P4   A; (0,0,0) (4,0,0) (0,-4,0)",
         &A,
@@ -184,6 +265,9 @@ fn verdict_table_rows() {
         &A,
         &[3, 3, 0, 5, 3, 0, 3, 5, 0],
     );
+}
+
+fn table_rows_7_to_9() {
     pair_row(
         b"P7   A; (2,3,-1) (2,3,1) (5,5,0)",
         &A,
@@ -194,7 +278,7 @@ fn verdict_table_rows() {
 }
 
 // Its rows of signs, and of refusals.
-fn sign_table_rows() {
+fn table_rows_10_to_12() {
     turn_row(b"P10  turn of (0,0) (4,0) (0,4)", &[0, 0, 4, 0, 0, 4]);
     side_row(
         b"P11  side of (L,L,-L) (L,-L,L) (-L,L,L) (-L,-L,-L)",
@@ -205,6 +289,9 @@ fn sign_table_rows() {
         &[0, 0, 0, 1, 1, 1, 2, 2, 2],
         &A,
     );
+}
+
+fn sign_table_rows_13() {
     turn_row(b"13   turn with a coordinate 524,288", &[0, 0, L, 0, 0, 4]);
     turn_row(
         b"13   turn with a coordinate 524,289",
@@ -218,6 +305,9 @@ fn sign_table_rows() {
         b"13   side with a coordinate 524,289",
         &[0, 0, 0, L + 1, 0, 0, 0, 1, 0, 0, 0, 1],
     );
+}
+
+fn pair_table_rows_13() {
     pair_row(
         b"13   A; with a coordinate 524,288",
         &A,
@@ -242,13 +332,35 @@ fn list_table_rows() {
     list_row(b"15   14 with a buffer of 7, start 2", &FIRST, &SECOND, 2);
 }
 
-// The turn: the other signs, and lengths, several bad positions, both ends of the grid and one past them.
+// Its row of the plate: the count after each call.
+fn four_undos(plate: Plate) {
+    let a = counted(plate::undo(plate));
+    let b = counted(plate::undo(a));
+    let c = counted(plate::undo(b));
+    counted(plate::undo(c));
+}
+
+fn plate_table_row() {
+    say(
+        b"16   place A as part 0, P1's second as part 1; shift part 1 by (0,0,5); undo four times: counts",
+    );
+    let a = counted(plate::place(plate::empty(), 0, 0, &A));
+    let b = counted(plate::place(a, 1, 1, &ACROSS));
+    four_undos(counted(plate::shift(b, 1, 0, 0, 5)));
+    say(b"\n");
+}
+
+// The turn: the other signs, and the ends of the grid.
 fn turn_rows() {
     say(b"Further rows of the turn\n");
     turn_row(b"to the right", &[0, 0, 0, 4, 4, 0]);
     turn_row(b"on a line", &[0, 0, 2, 2, 5, 5]);
     turn_row(b"equal points", &[3, -1, 3, -1, 0, 7]);
     turn_row(b"all at an end of the grid", &[-L, -L, L, -L, -L, L]);
+}
+
+// What the turn refuses: lengths, several bad positions, and numbers past the ends of the grid.
+fn turn_length_refusals() {
     turn_row(b"no numbers", &[]);
     turn_row(b"5 numbers", &[0, 0, 4, 0, 0]);
     turn_row(
@@ -256,6 +368,9 @@ fn turn_rows() {
         &[L + 1, 0, 4, 0, 0, 4, 0],
     );
     turn_row(b"12 numbers", &[0, 0, 0, 1, 0, 0, 0, 1, 0, 0, 0, 1]);
+}
+
+fn turn_grid_refusals() {
     turn_row(
         b"positions 2 and 4 off the grid",
         &[0, 0, L + 1, 0, -L - 1, 4],
@@ -279,6 +394,9 @@ fn side_rows() {
         b"all at an end of the grid",
         &[-L, -L, -L, L, -L, -L, -L, -L, L, -L, L, -L],
     );
+}
+
+fn side_length_refusals() {
     side_row(b"no numbers", &[]);
     side_row(b"6 numbers", &[0, 0, 4, 0, 0, 4]);
     side_row(b"11 numbers", &[0, 0, 0, 1, 0, 0, 0, 1, 0, 0, 0]);
@@ -286,6 +404,9 @@ fn side_rows() {
         b"13 numbers, the last off the grid",
         &[0, 0, 0, 1, 0, 0, 0, 1, 0, 0, 0, 1, L + 1],
     );
+}
+
+fn side_grid_refusals() {
     side_row(
         b"positions 3, 7 and 11 off the grid",
         &[0, 0, 0, -L - 1, 0, 0, 0, L + 1, 0, 0, 0, L + 1],
@@ -307,6 +428,9 @@ fn flat_rows() {
         &[0, 0, 4, 0, 0, 4],
         &[2, 2, 5, 2, 5, 5],
     );
+}
+
+fn other_flat_rows() {
     flat_row(
         b"a corner one past the edge",
         &[0, 0, 4, 0, 0, 4],
@@ -331,7 +455,6 @@ fn flat_rows() {
 
 // What the flat test refuses, and in which order.
 fn flat_refusals() {
-    say(b"Refusals of the flat test\n");
     flat_row(b"no numbers; no numbers", &[], &[]);
     flat_row(b"A; 5 numbers", &[0, 0, 4, 0, 0, 4], &[0, 0, 4, 0, 0]);
     flat_row(
@@ -339,6 +462,9 @@ fn flat_refusals() {
         &[L + 1, 0, 4, 0, 0, 4],
         &[0, 0, 0, 4, 0, 0, 0, 4, 0],
     );
+}
+
+fn flat_shape_refusals() {
     flat_row(
         b"off the grid and flat; A",
         &[0, 0, 0, 0, L + 1, 0],
@@ -357,7 +483,7 @@ fn flat_refusals() {
     flat_row(b"A; flat", &[0, 0, 4, 0, 0, 4], &[5, 5, 1, 1, 3, 3]);
 }
 
-// Triangles in space: corners on the other's plane, planes that stand upright, the ends of the grid, and refusals in their order.
+// Triangles in space: corners on the other's plane, planes that stand upright, and the ends of the grid.
 fn pair_rows() {
     say(b"Further rows of the test in space\n");
     pair_row(
@@ -380,6 +506,10 @@ fn pair_rows() {
         &[-L, -L, -L, L, L, L, L, -L, 0],
         &[0, 0, 0, -L, L, L, -L, L, -L],
     );
+}
+
+// What the test in space refuses, and in which order.
+fn pair_refusals() {
     pair_row(b"no numbers; no numbers", &[], &[]);
     pair_row(
         b"off the grid; 6 numbers",
@@ -401,6 +531,9 @@ fn segment_rows() {
     segment_row(b"past A", &[3, 3, -1, 3, 3, 1], &A);
     segment_row(b"ending on an edge of A", &[2, 2, 5, 2, 2, 0], &A);
     segment_row(b"in the plane of A, past it", &[5, 0, 0, 0, 5, 0], &A);
+}
+
+fn segment_refusals() {
     segment_row(b"equal ends; A", &[1, 1, 0, 1, 1, 0], &A);
     segment_row(b"A; a segment", &A, &[1, 1, -1, 1, 1, 1]);
     segment_row(
@@ -469,19 +602,297 @@ fn second_list_refusals() {
     );
 }
 
-fn main() {
-    verdict_table_rows();
-    sign_table_rows();
+// Places A in each slot from `from` on and below `to`, as the part that is left of the slot's number by 16. Each place is a
+// change, and each two of these slots clash where their parts differ.
+fn fill(plate: Plate, from: usize, to: usize) -> Plate {
+    let mut filled = plate;
+    let mut slot = from;
+    while slot < to {
+        let answer = plate::place(filled, slot, slot % 16, &A);
+        let next = answer.plate;
+        filled = next;
+        slot += 1;
+    }
+    filled
+}
+
+fn undo_times(plate: Plate, times: usize) -> Plate {
+    let mut left = plate;
+    let mut n: usize = 0;
+    while n < times {
+        let answer = plate::undo(left);
+        let next = answer.plate;
+        left = next;
+        n += 1;
+    }
+    left
+}
+
+fn is_served(told: Checked) -> bool {
+    match told {
+        Checked::Refused(_) => false,
+        Checked::Fine => true,
+    }
+}
+
+// How many undos are served before one is refused, 100 at most.
+fn undos_served(plate: Plate) -> usize {
+    let mut left = plate;
+    let mut n: usize = 0;
+    while n < 100 {
+        let answer = plate::undo(left);
+        let told = answer.told;
+        let next = answer.plate;
+        if !is_served(told) {
+            return n;
+        }
+        left = next;
+        n += 1;
+    }
+    n
+}
+
+// The story of 40 changes, of which 32 can be taken back. The 8 that stand then are triangles of as many parts.
+fn story_rows() {
+    say(b"Many changes of the plate\n");
+    let filled = fill(plate::empty(), 0, 40);
+    say(b"40 changes: ");
+    say_plate(filled);
+    say(b"then undos until one is refused: ");
+    let undos = undos_served(filled);
+    say_count(undos as u64);
+    say(b" served; ");
+    let left = undo_times(filled, undos);
+    say_plate(left);
+    undo_row(b"one undo more", left);
+}
+
+// The reach below its end, and the most clashes that a plate can have.
+fn other_story_rows() {
+    let filled = fill(plate::empty(), 0, 40);
+    let left = undo_times(filled, 5);
+    let again = fill(left, 35, 38);
+    say(b"40 changes, 5 undos, 3 changes: ");
+    say_plate(again);
+    say(b"all 64 slots filled, 4 as each part: ");
+    let full = fill(plate::empty(), 0, 64);
+    say_plate(full);
+}
+
+// What place refuses, and in which order. A is in slot 63, as part 15.
+fn place_number_refusals(plate: Plate) -> Plate {
+    let a = place_row(b"slot 64, part 16, 8 numbers", plate, 64, 16, &A[..8]);
+    let b = place_row(b"slot 2^64 - 1", a, 18446744073709551615, 0, &A);
+    let c = place_row(b"a filled slot, part 16, 8 numbers", b, 63, 16, &A[..8]);
+    place_row(b"part 256", c, 0, 256, &A)
+}
+
+fn place_list_refusals(plate: Plate) -> Plate {
+    let a = place_row(b"a filled slot, no numbers", plate, 63, 0, &[]);
+    let b = place_row(
+        b"a filled slot, 10 numbers, the first off the grid",
+        a,
+        63,
+        0,
+        &[L + 1, 0, 0, 4, 0, 0, 0, 4, 0, 0],
+    );
+    place_row(
+        b"a filled slot, flat, positions 3 and 6 off the grid",
+        b,
+        63,
+        0,
+        &[0, 0, 0, L + 1, 0, 0, -L - 1, 0, 0],
+    )
+}
+
+fn place_slot_refusals(plate: Plate) -> Plate {
+    let a = place_row(
+        b"a filled slot, flat",
+        plate,
+        63,
+        0,
+        &[0, 0, 0, 1, 1, 1, 2, 2, 2],
+    );
+    place_row(b"a filled slot", a, 63, 0, &A)
+}
+
+fn place_rows() {
+    say(b"Further rows of place\n");
+    let a = place_row(b"A in slot 63 as part 15", plate::empty(), 63, 15, &A);
+    let b = place_slot_refusals(place_list_refusals(place_number_refusals(a)));
+    let c = place_row(b"A in slot 0 as part 15", b, 0, 15, &A);
+    place_row(b"A in slot 62 as part 0", c, 62, 0, &A);
+}
+
+// Lift: what it refuses, and a slot that is filled again.
+fn again_rows(plate: Plate) {
+    let a = place_row(b"A in slot 1 again, as part 0", plate, 1, 0, &A);
+    let b = undo_row(b"undo of this place", a);
+    undo_row(b"undo of the lift", b);
+}
+
+fn lift_rows() {
+    say(b"Further rows of lift, A in slots 0 to 2 as parts 0 to 2\n");
+    let plate = fill(plate::empty(), 0, 3);
+    let a = lift_row(b"slot 64", plate, 64);
+    let b = lift_row(b"an empty slot, 3", a, 3);
+    let c = lift_row(b"slot 1", b, 1);
+    let d = lift_row(b"slot 1 again", c, 1);
+    again_rows(d);
+}
+
+// A plate after a place.
+fn placed(plate: Plate, slot: usize, part: usize, triangle: &[i32]) -> Plate {
+    let answer = plate::place(plate, slot, part, triangle);
+    answer.plate
+}
+
+// Part 2 has A in slot 5, and in slots 7 and 9 triangles that reach to one before the end of the grid and to its ends. Part 4
+// has a triangle that has the corner (4,0,0) in common with A.
+fn shift_plate() -> Plate {
+    let a = placed(plate::empty(), 5, 2, &A);
+    let b = placed(a, 7, 2, &[L - 5, 0, 0, L - 1, 0, 0, L - 5, 4, 0]);
+    let c = placed(b, 9, 2, &[L - 4, 0, 0, L, 0, 0, L - 4, 4, -L]);
+    placed(c, 11, 4, &[-9, 0, 0, 4, 0, 0, -9, 9, 0])
+}
+
+// What shift refuses, and in which order.
+fn shift_refusals(plate: Plate) -> Plate {
+    let a = shift_row(b"part 16, off the grid", plate, 16, 2147483647, 0, 0);
+    let b = shift_row(
+        b"no triangle of part 3, off the grid",
+        a,
+        3,
+        0,
+        2147483647,
+        0,
+    );
+    let c = shift_row(b"part 2 by (1,0,0), slot 9 off the grid", b, 2, 1, 0, 0);
+    let d = shift_row(
+        b"part 2 by (2,0,0), slots 7 and 9 off the grid",
+        c,
+        2,
+        2,
+        0,
+        0,
+    );
+    shift_row(b"part 2 by (0,0,-1), slot 9 off the grid", d, 2, 0, 0, -1)
+}
+
+// Moves by the ends of 32 bits.
+fn shift_end_refusals(plate: Plate) -> Plate {
+    let a = shift_row(b"part 2 by (2147483647,0,0)", plate, 2, 2147483647, 0, 0);
+    let b = shift_row(b"part 2 by (0,-2147483648,0)", a, 2, 0, -2147483648, 0);
+    shift_row(b"part 4 by (0,0,-2147483648)", b, 4, 0, 0, -2147483648)
+}
+
+// Moves that are served: part 2 leaves the triangle of part 4 with slot 5, and meets it with slots 7 and 9.
+fn shifted_rows(plate: Plate) {
+    let a = shift_row(b"part 2 by (0,0,0)", plate, 2, 0, 0, 0);
+    let b = shift_row(
+        b"part 2 by (-524288,0,0), to the end of the grid",
+        a,
+        2,
+        -L,
+        0,
+        0,
+    );
+    let c = shift_row(b"part 2 by (-1,0,0), slot 5 off the grid", b, 2, -1, 0, 0);
+    undo_row(b"undo", c);
+}
+
+fn shift_rows() {
+    say(b"Further rows of shift\n");
+    let same = shift_refusals(shift_plate());
+    shifted_rows(shift_end_refusals(same));
+    say(b"Undo of the empty plate\n");
+    undo_row(b"undo", plate::empty());
+}
+
+// Part 0 has A and P4's second triangle, which have an edge in common; part 1 has P1's second, part 2 P2's second.
+fn parts_plate() -> Plate {
+    let a = placed(plate::empty(), 0, 0, &A);
+    let b = placed(a, 1, 0, &[0, 0, 0, 4, 0, 0, 0, -4, 0]);
+    let c = placed(b, 2, 1, &ACROSS);
+    placed(c, 3, 2, &ABOVE)
+}
+
+// What parts refuses, and in which order.
+fn parts_refusals(plate: Plate) {
+    parts_row(b"parts 16 and 17", plate, 16, 17);
+    parts_row(b"part 3, which has no triangle, and part 16", plate, 3, 16);
+    parts_row(b"parts 3 and 4, which have no triangle", plate, 3, 4);
+    parts_row(b"part 0 and part 4, which has no triangle", plate, 0, 4);
+    parts_row(b"part 3, which has no triangle, and itself", plate, 3, 3);
+}
+
+fn parts_verdicts(plate: Plate) {
+    parts_row(b"part 0 and itself", plate, 0, 0);
+    parts_row(b"parts 0 and 1", plate, 0, 1);
+    parts_row(b"parts 1 and 0", plate, 1, 0);
+    parts_row(b"parts 0 and 2", plate, 0, 2);
+    parts_row(b"parts 2 and 1", plate, 2, 1);
+}
+
+fn parts_rows() {
+    say(b"Further rows of parts\n");
+    let plate = parts_plate();
+    say(b"four triangles of three parts: ");
+    say_plate(plate);
+    parts_refusals(plate);
+    parts_verdicts(plate);
+}
+
+fn table_rows() {
+    say(b"Rows of the bench table\n");
+    table_rows_1_to_3();
+    table_rows_4_to_6();
+    table_rows_7_to_9();
+    table_rows_10_to_12();
+    sign_table_rows_13();
+    pair_table_rows_13();
     list_table_rows();
+    plate_table_row();
+}
+
+fn all_sign_rows() {
     turn_rows();
+    turn_length_refusals();
+    turn_grid_refusals();
     side_rows();
+    side_length_refusals();
+    side_grid_refusals();
+}
+
+fn all_verdict_rows() {
     flat_rows();
+    other_flat_rows();
+    say(b"Refusals of the flat test\n");
     flat_refusals();
+    flat_shape_refusals();
     pair_rows();
+    pair_refusals();
     segment_rows();
+    segment_refusals();
+}
+
+fn all_list_rows() {
     list_rows();
     say(b"Refusals of the listing\n");
     list_length_refusals();
     first_list_refusals();
     second_list_refusals();
+}
+
+fn main() {
+    table_rows();
+    all_sign_rows();
+    all_verdict_rows();
+    all_list_rows();
+    story_rows();
+    other_story_rows();
+    place_rows();
+    lift_rows();
+    shift_rows();
+    parts_rows();
 }
