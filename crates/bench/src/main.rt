@@ -208,23 +208,38 @@ fn place_row(row: &[u8], plate: Plate, slot: usize, part: usize, triangle: &[i32
     plate_told(plate::place(plate, slot, part, triangle))
 }
 
-fn lift_row(row: &[u8], plate: Plate, slot: usize) -> Plate {
-    say(row);
+fn lift_row(plate: Plate, slot: usize) -> Plate {
+    say(b"lift of slot ");
+    say_count(slot as u64);
     plate_told(plate::lift(plate, slot))
 }
 
-fn shift_row(row: &[u8], plate: Plate, part: usize, dx: i32, dy: i32, dz: i32) -> Plate {
-    say(row);
+// One coordinate of a move.
+fn say_step(d: i32) {
+    say(b" ");
+    say_whole(d as i64);
+}
+
+fn shift_row(plate: Plate, part: usize, dx: i32, dy: i32, dz: i32) -> Plate {
+    say(b"shift of part ");
+    say_count(part as u64);
+    say(b" by");
+    say_step(dx);
+    say_step(dy);
+    say_step(dz);
     plate_told(plate::shift(plate, part, dx, dy, dz))
 }
 
-fn undo_row(row: &[u8], plate: Plate) -> Plate {
-    say(row);
+fn undo_row(plate: Plate) -> Plate {
+    say(b"undo");
     plate_told(plate::undo(plate))
 }
 
-fn parts_row(row: &[u8], plate: Plate, p: usize, q: usize) {
-    say(row);
+fn parts_row(plate: Plate, p: usize, q: usize) {
+    say(b"parts ");
+    say_count(p as u64);
+    say(b" and ");
+    say_count(q as u64);
     say(b": ");
     say_verdict(plate::parts(plate, p, q));
     say(b"\n");
@@ -602,8 +617,8 @@ fn second_list_refusals() {
     );
 }
 
-// Places A in each slot from `from` on and below `to`, as the part that is left of the slot's number by 16. Each place is a
-// change, and each two of these slots clash where their parts differ.
+// Places A in each slot from `from` on and below `to`, its part the remainder of the slot's number by 16. Each place is a change,
+// and each two of these slots clash where their parts differ.
 fn fill(plate: Plate, from: usize, to: usize) -> Plate {
     let mut filled = plate;
     let mut slot = from;
@@ -664,7 +679,7 @@ fn story_rows() {
     say(b" served; ");
     let left = undo_times(filled, undos);
     say_plate(left);
-    undo_row(b"one undo more", left);
+    undo_row(left);
 }
 
 // The reach below its end, and the most clashes that a plate can have.
@@ -724,21 +739,16 @@ fn place_rows() {
     place_row(b"A in slot 62 as part 0", c, 62, 0, &A);
 }
 
-// Lift: what it refuses, and a slot that is filled again.
-fn again_rows(plate: Plate) {
-    let a = place_row(b"A in slot 1 again, as part 0", plate, 1, 0, &A);
-    let b = undo_row(b"undo of this place", a);
-    undo_row(b"undo of the lift", b);
-}
-
+// Lift of A in slots 0 to 2, as parts 0 to 2: what it refuses, and a slot that is filled again.
 fn lift_rows() {
-    say(b"Further rows of lift, A in slots 0 to 2 as parts 0 to 2\n");
-    let plate = fill(plate::empty(), 0, 3);
-    let a = lift_row(b"slot 64", plate, 64);
-    let b = lift_row(b"an empty slot, 3", a, 3);
-    let c = lift_row(b"slot 1", b, 1);
-    let d = lift_row(b"slot 1 again", c, 1);
-    again_rows(d);
+    say(b"Further rows of lift\n");
+    let a = lift_row(fill(plate::empty(), 0, 3), 64);
+    let b = lift_row(a, 3);
+    let c = lift_row(b, 1);
+    let d = lift_row(c, 1);
+    let e = place_row(b"A in slot 1 again, as part 0", d, 1, 0, &A);
+    let f = undo_row(e);
+    undo_row(f);
 }
 
 // A plate after a place.
@@ -756,57 +766,34 @@ fn shift_plate() -> Plate {
     placed(c, 11, 4, &[-9, 0, 0, 4, 0, 0, -9, 9, 0])
 }
 
-// What shift refuses, and in which order.
+// What shift refuses, and in which order: a part above 15, a part with no triangle, and moves that would take slot 9, slots 7
+// and 9, and slot 9 off the grid.
 fn shift_refusals(plate: Plate) -> Plate {
-    let a = shift_row(b"part 16, off the grid", plate, 16, 2147483647, 0, 0);
-    let b = shift_row(
-        b"no triangle of part 3, off the grid",
-        a,
-        3,
-        0,
-        2147483647,
-        0,
-    );
-    let c = shift_row(b"part 2 by (1,0,0), slot 9 off the grid", b, 2, 1, 0, 0);
-    let d = shift_row(
-        b"part 2 by (2,0,0), slots 7 and 9 off the grid",
-        c,
-        2,
-        2,
-        0,
-        0,
-    );
-    shift_row(b"part 2 by (0,0,-1), slot 9 off the grid", d, 2, 0, 0, -1)
+    let a = shift_row(plate, 16, 2147483647, 0, 0);
+    let b = shift_row(a, 3, 0, 2147483647, 0);
+    let c = shift_row(b, 2, 1, 0, 0);
+    let d = shift_row(c, 2, 2, 0, 0);
+    shift_row(d, 2, 0, 0, -1)
 }
 
 // Moves by the ends of 32 bits.
 fn shift_end_refusals(plate: Plate) -> Plate {
-    let a = shift_row(b"part 2 by (2147483647,0,0)", plate, 2, 2147483647, 0, 0);
-    let b = shift_row(b"part 2 by (0,-2147483648,0)", a, 2, 0, -2147483648, 0);
-    shift_row(b"part 4 by (0,0,-2147483648)", b, 4, 0, 0, -2147483648)
+    let a = shift_row(plate, 2, 2147483647, 0, 0);
+    let b = shift_row(a, 2, 0, -2147483648, 0);
+    shift_row(b, 4, 0, 0, -2147483648)
 }
 
-// Moves that are served: part 2 leaves the triangle of part 4 with slot 5, and meets it with slots 7 and 9.
-fn shifted_rows(plate: Plate) {
-    let a = shift_row(b"part 2 by (0,0,0)", plate, 2, 0, 0, 0);
-    let b = shift_row(
-        b"part 2 by (-524288,0,0), to the end of the grid",
-        a,
-        2,
-        -L,
-        0,
-        0,
-    );
-    let c = shift_row(b"part 2 by (-1,0,0), slot 5 off the grid", b, 2, -1, 0, 0);
-    undo_row(b"undo", c);
-}
-
+// Moves that are served: by nothing, and to the end of the grid, where part 2 leaves the triangle of part 4 with slot 5 and meets it
+// with slots 7 and 9. One further is refused.
 fn shift_rows() {
     say(b"Further rows of shift\n");
-    let same = shift_refusals(shift_plate());
-    shifted_rows(shift_end_refusals(same));
+    let same = shift_end_refusals(shift_refusals(shift_plate()));
+    let a = shift_row(same, 2, 0, 0, 0);
+    let b = shift_row(a, 2, -L, 0, 0);
+    let c = shift_row(b, 2, -1, 0, 0);
+    undo_row(c);
     say(b"Undo of the empty plate\n");
-    undo_row(b"undo", plate::empty());
+    undo_row(plate::empty());
 }
 
 // Part 0 has A and P4's second triangle, which have an edge in common; part 1 has P1's second, part 2 P2's second.
@@ -817,21 +804,13 @@ fn parts_plate() -> Plate {
     placed(c, 3, 2, &ABOVE)
 }
 
-// What parts refuses, and in which order.
+// What parts refuses, and in which order. Parts 3 and 4 have no triangle.
 fn parts_refusals(plate: Plate) {
-    parts_row(b"parts 16 and 17", plate, 16, 17);
-    parts_row(b"part 3, which has no triangle, and part 16", plate, 3, 16);
-    parts_row(b"parts 3 and 4, which have no triangle", plate, 3, 4);
-    parts_row(b"part 0 and part 4, which has no triangle", plate, 0, 4);
-    parts_row(b"part 3, which has no triangle, and itself", plate, 3, 3);
-}
-
-fn parts_verdicts(plate: Plate) {
-    parts_row(b"part 0 and itself", plate, 0, 0);
-    parts_row(b"parts 0 and 1", plate, 0, 1);
-    parts_row(b"parts 1 and 0", plate, 1, 0);
-    parts_row(b"parts 0 and 2", plate, 0, 2);
-    parts_row(b"parts 2 and 1", plate, 2, 1);
+    parts_row(plate, 16, 17);
+    parts_row(plate, 3, 16);
+    parts_row(plate, 3, 4);
+    parts_row(plate, 0, 4);
+    parts_row(plate, 3, 3);
 }
 
 fn parts_rows() {
@@ -840,10 +819,14 @@ fn parts_rows() {
     say(b"four triangles of three parts: ");
     say_plate(plate);
     parts_refusals(plate);
-    parts_verdicts(plate);
+    parts_row(plate, 0, 0);
+    parts_row(plate, 0, 1);
+    parts_row(plate, 1, 0);
+    parts_row(plate, 0, 2);
+    parts_row(plate, 2, 1);
 }
 
-fn table_rows() {
+fn main() {
     say(b"Rows of the bench table\n");
     table_rows_1_to_3();
     table_rows_4_to_6();
@@ -853,18 +836,12 @@ fn table_rows() {
     pair_table_rows_13();
     list_table_rows();
     plate_table_row();
-}
-
-fn all_sign_rows() {
     turn_rows();
     turn_length_refusals();
     turn_grid_refusals();
     side_rows();
     side_length_refusals();
     side_grid_refusals();
-}
-
-fn all_verdict_rows() {
     flat_rows();
     other_flat_rows();
     say(b"Refusals of the flat test\n");
@@ -874,21 +851,11 @@ fn all_verdict_rows() {
     pair_refusals();
     segment_rows();
     segment_refusals();
-}
-
-fn all_list_rows() {
     list_rows();
     say(b"Refusals of the listing\n");
     list_length_refusals();
     first_list_refusals();
     second_list_refusals();
-}
-
-fn main() {
-    table_rows();
-    all_sign_rows();
-    all_verdict_rows();
-    all_list_rows();
     story_rows();
     other_story_rows();
     place_rows();
