@@ -1,6 +1,7 @@
 /*
  * Zimogrud for C and C++: the exact signs of points, the tests whether two shapes of the plane or of space have a point in
- * common, and the listing of all pairs of triangles of two lists that have one, as libdoor.a has them.
+ * common, the listing of all pairs of triangles of two lists that have one, and runs of calls on a plate, as libdoor.a has
+ * them.
  *
  * What goes in. Points are one list of whole numbers, point after point:
  *
@@ -10,10 +11,11 @@
  *     zg_segment   a segment and a triangle of space, six and nine numbers
  *     zg_pair      two triangles of space, nine numbers each
  *     zg_list      two lists of triangles of space, nine numbers a triangle; each list has 0 to 1024 triangles
+ *     zg_plate     calls on a plate: told below, at its declaration, with what it answers
  *
  * Any numbers and any lengths may be given. What can't be served is refused.
  *
- * What comes out. Four numbers are written to the front of `answer`, and all after the fourth stay as they are:
+ * What comes out, of all but zg_plate. Four numbers are written to the front of `answer`, and all after the fourth stay:
  *
  *     answer[0]   the refusal number, 0 where the call serves
  *     answer[1]   the side: 0 for the first or only list, 1 for the second; 0 where the call serves
@@ -45,10 +47,10 @@
  * given, that of the lowest position counts.
  *
  * What the caller owes, which no call can see for itself. Each pointer is not null, is aligned for its type and is valid for
- * as many numbers as the length beside it says, for reading and, at `answer` and `buffer`, for writing; not null and aligned
- * also where the length is 0. `answer` and `buffer` overlap neither each other nor any of the other lists, and nothing else
- * writes to any of them during the call. zg_list takes some 230 kilobytes of stack, whatever its lists; the other calls take
- * little.
+ * as many numbers as the length beside it says, for reading and, at `answer`, `answers` and `buffer`, for writing; not null and
+ * aligned also where the length is 0. These three overlap neither each other nor any of the other lists, and nothing else
+ * writes to any of them during the call. zg_list takes some 230 kilobytes of stack, whatever its lists, and zg_plate some 50;
+ * the other calls take little.
  */
 #ifndef ZIMOGRUD_H
 #define ZIMOGRUD_H
