@@ -2,33 +2,21 @@
 -- the six numbers of each. And demand 3 through the door: the count written for a call is the true one of the slots after it, and the reach
 -- written for it is that of the history after it. Assumes nothing.
 use mathlib.Core.Path.{_≡_, refl, sym, ap, _∙_, subst}
-use mathlib.Core.Bool.{Bool}
 use mathlib.Core.List.{List, [], _∷_, _++_}
 use Prim.Native.Nat.{ℕ, zero, suc, _+_, _*_, _<_}
 use native.Mathlib.Omega.{arith}
 use lib.IntN.{ℤ}
 use lib.ListN.{getD, take, drop, take-append-drop}
 use lib.Seq.{getD-take, getD-drop, drop-drop}
-use Rattle.shape.specs.Verdicts.{Says}
-use Rattle.shape.proofs.VerdictLaws.{says-fixed}
-use Rattle.checks.specs.Answers.{Answer, served, refused, numberOf, sideOf, placeOf, Check, fine, _then_, withServed}
-use Rattle.plate.specs.Slots.{Slot, Clashes}
-use Rattle.plate.specs.Rules.{partsChecks}
+use Rattle.checks.specs.Answers.{Answer, numberOf, sideOf, placeOf, withServed}
+use Rattle.plate.specs.Slots.{Clashes}
 use Rattle.plate.specs.Histories.{History, slotsOf, run}
-use Rattle.plate.specs.Plates.{PartsRule}
 use Rattle.plate.proofs.Clashing.{clashes-unique}
+use Rattle.plate.proofs.Unique.{parts-rule-unique}
 use Rattle.door.specs.Numbers.{verdictCode, valueOf}
 use Rattle.door.specs.PlateRuns.{Ask, call, parts, unknown, askAt, added, callsBefore, historyBefore, Six, AskAnswered, PlateRun}
 
 -- ---- one call
--- The question whether two parts clash has one right answer.
-parts-fixed : {S : List Slot} {p q : ℕ} {a b : Answer Bool} → PartsRule S p q a → PartsRule S p q b → a ≡ b
-parts-fixed {S} {p} {q} x y = x .told ∙ same (partsChecks S p q) (x .right) (y .right) ∙ sym (y .told)
-  where
-    same : {v w : Bool} {Claim : Type 0} (c : Check) → (c ≡ fine → Says v Claim) → (c ≡ fine → Says w Claim) → (c then served v) ≡ (c then served w)
-    same (served u) f g = ap served (says-fixed (f refl) (g refl))
-    same (refused number side place) f g = refl
-
 -- An answer with the history after it has one list of six numbers, and so has a call on a history.
 six-fixed : {told told′ : Answer ℕ} {h : History} {six six′ : List ℕ} → told ≡ told′ → Six told h six → Six told′ h six′ → six ≡ six′
 six-fixed {h} e x y =
@@ -37,7 +25,7 @@ six-fixed {h} e x y =
 
 answered-fixed : (h : History) (ask : Ask) {six six′ : List ℕ} → AskAnswered h ask six → AskAnswered h ask six′ → six ≡ six′
 answered-fixed h (call c) x y = six-fixed refl x y
-answered-fixed h (parts p q) x y = six-fixed (ap (withServed verdictCode) (parts-fixed (x .right) (y .right))) (x .written) (y .written)
+answered-fixed h (parts p q) x y = six-fixed (ap (withServed verdictCode) (parts-rule-unique (x .right) (y .right))) (x .written) (y .written)
 answered-fixed h unknown x y = absurd x
 
 -- ---- the run

@@ -10,9 +10,10 @@ use Rattle.checks.specs.Answers.{Answer, served, refused, Check, fine, _then_}
 use Rattle.checks.specs.Told.{toldCheck}
 use Rattle.checks.specs.declared.grid.Checked.{Checked}
 use Rattle.checks.specs.declared.grid.Checked.the-variants.{Fine, Refused as CheckRefused}
+use Rattle.plate.specs.Slots.{Slot}
 use Rattle.plate.specs.Rules.{partsChecks}
-use Rattle.plate.specs.Histories.{History, slotsOf, Call, outcome, run}
-use Rattle.plate.specs.Plates.{Stands, Answered, Promise, CountPromise, PartsPromise, MadeBy}
+use Rattle.plate.specs.Histories.{History, Call, outcome, run}
+use Rattle.plate.specs.Plates.{Stands, Answered, Promise, CountPromise, PartsRule, PartsPromise, MadeBy}
 use Rattle.plate.specs.declared.plates.Plate.{Plate}
 use Rattle.plate.specs.declared.calls.PlateAnswer.{PlateAnswer}
 use Rattle.plate.proofs.Clashing.{clashes-unique}
@@ -54,18 +55,17 @@ answer-unique r r′ m k k′ =
     let told = sym (checked-back (r .told)) ∙ ap checkedBack (same .0) ∙ checked-back (r′ .told) in
     λ i. record { plate = same .1 i; told = told i }
 
--- Parts.
-pub parts-unique : {calls : List Call} {plate : Plate} {p q : ℕ} {a b : Answer Bool} → MadeBy calls plate →
-    PartsPromise plate p q a → PartsPromise plate p q b → a ≡ b
-parts-unique {calls} {p} {q} m k k′ =
-    let s = demand-3 m in
-    let x = k .kept calls s in
-    let y = k′ .kept calls s in
-    x .told ∙ same (partsChecks (slotsOf (run calls)) p q) (x .right) (y .right) ∙ sym (y .told)
+-- Parts: on the same slots the question has one right answer, and so it has on a plate that calls made.
+pub parts-rule-unique : {S : List Slot} {p q : ℕ} {a b : Answer Bool} → PartsRule S p q a → PartsRule S p q b → a ≡ b
+parts-rule-unique {S} {p} {q} x y = x .told ∙ same (partsChecks S p q) (x .right) (y .right) ∙ sym (y .told)
   where
     same : {v w : Bool} {Claim : Type 0} (c : Check) → (c ≡ fine → Says v Claim) → (c ≡ fine → Says w Claim) → (c then served v) ≡ (c then served w)
     same (served u) f g = ap served (says-fixed (f refl) (g refl))
     same (refused number side place) f g = refl
+
+pub parts-unique : {calls : List Call} {plate : Plate} {p q : ℕ} {a b : Answer Bool} → MadeBy calls plate →
+    PartsPromise plate p q a → PartsPromise plate p q b → a ≡ b
+parts-unique {calls} m k k′ = parts-rule-unique (k .kept calls (demand-3 m)) (k′ .kept calls (demand-3 m))
 
 -- Count: it is read off the plate, whatever the plate is.
 pub count-unique : {plate : Plate} {m n : ℕ} → CountPromise plate m → CountPromise plate n → m ≡ n

@@ -14,7 +14,7 @@ use checks::shape_checked;
 use kernel::Kind;
 ghost use mathlib.Core.Path.{_≡_};
 ghost use mathlib.Core.List.{[]};
-ghost use Rattle.checks.specs.Answers.{refused, fine, _then_};
+ghost use Rattle.checks.specs.Answers.{refused, _then_};
 ghost use Rattle.checks.specs.Rules.{rightLength, shapeChecks};
 ghost use Rattle.checks.specs.Told.{toldCheck};
 ghost use Rattle.plate.specs.Changes.{place, lift, shift};

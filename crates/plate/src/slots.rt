@@ -2,7 +2,6 @@
 use moving::move_numbers;
 use moving::stay_on;
 ghost use mathlib.Core.Path.{_≡_};
-ghost use mathlib.Core.Bool.{Bool, not};
 ghost use mathlib.Core.List.{List};
 ghost use Prim.Native.Nat.{ℕ, suc, _*_, _<_};
 ghost use lib.ListN.{length, getD};

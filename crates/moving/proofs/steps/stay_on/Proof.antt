@@ -1,9 +1,9 @@
 -- `moving::steps::stay_on` meets its contract: after k numbers the flag tells whether all of them stay on the grid. Assumes nothing.
 use mathlib.Core.Path.{_≡_, refl, sym, ap, _∙_}
-use mathlib.Core.Bool.{Bool, false, cond}
+use mathlib.Core.Bool.{Bool, false}
 use mathlib.Core.List.{List}
 use mathlib.Core.Logic.{⊎-elim}
-use Prim.Native.Nat.{ℕ, _+_, _-_, _≤_}
+use Prim.Native.Nat.{ℕ, _-_, _≤_}
 use native.Mathlib.Numerals.{add-one}
 use native.Mathlib.Omega.{arith}
 use borrow.Author.Needs.{needs}
@@ -21,10 +21,6 @@ use Rattle.moving.proofs.steps.stay_on.Tie as tie
 -- whether number i stays
 abbrev stays : List ℤ → List ℤ → ℕ → Bool
 stays numbers by i = onGrid (getD (moved by numbers) i (pos 0))
-
--- one number more
-one-more : (test : ℕ → Bool) (k : ℕ) → cond (test k) (allBelow k test) false ≡ allBelow (k + 1) test
-one-more test k = ap (λ (n : ℕ). allBelow n test) (sym (add-one k))
 
 abbrev Inv-loop : tie.InvT-loop
 Inv-loop numbers by on₀ k₀ on k = (k ≤ length numbers) × (on ≡ allBelow k (stays numbers by))
@@ -83,7 +79,7 @@ loop-again c =
           (λ came. if-left _ _ (sym (sum-off ok (made m) tells (came .0 .taken))) refl (came .1))
           (λ came. if-taken _ _ (sym (sum-on ok (made m) tells (came .0 .left))) refl (came .1 ∙ p .loop .inv .1))
           (c .if1 .came)
-          ∙ one-more (stays (p .before .args .numbers .now) (p .before .args .by .now)) (p .loop .k),
+          ∙ ap (λ (n : ℕ). allBelow n (stays (p .before .args .numbers .now) (p .before .args .by .now))) (sym (add-one (p .loop .k))),
     )
 
 returns : tie.Need-returns Inv-loop μ-loop
