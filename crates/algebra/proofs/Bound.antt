@@ -54,14 +54,7 @@ abs-mul (negsuc a) (negsuc b) = refl
 pub record Within (n : ℕ) (z : ℤ) : Type 0 where
   pub abs : natAbs z ≤ n
 
--- a larger bound
-pub within-widen : {m n : ℕ} {z : ℤ} → m ≤ n → Within m z → Within n z
-within-widen l h = record { abs = omega (arith, h .abs) }
-
--- of an opposite, a sum, a difference and a product
-pub within-neg : {n : ℕ} {a : ℤ} → Within n a → Within n (negℤ a)
-within-neg {a} h = record { abs = omega (arith, abs-neg a, h .abs) }
-
+-- of a sum, a difference and a product
 pub within-add : {m n : ℕ} {a b : ℤ} → Within m a → Within n b → Within (m + n) (a +ℤ b)
 within-add {a} {b} h g = record { abs = omega (arith, abs-add a b, h .abs, g .abs) }
 

@@ -13,12 +13,10 @@
 --   product-in-range : {a b c : ℤ} → Within 1000000 a → Within 1000000 b → Within 1000000 c → SFits w64 (toZ w64 (ofZ w64 (a -ℤ b)) *ℤ c)
 --   product-in-range a b c = in-range (product (held w64 (difference (exact a) (exact b)) tt) (exact c)) tt
 use mathlib.Core.Path.{_≡_, refl, sym, _∙_, subst}
-use mathlib.Core.List.{List}
 use Prim.Native.Nat.{ℕ, _+_, _*_, _^_, _≤_, _<_}
 use native.Mathlib.Omega.{arith}
 use lib.Dec.{T, ltb, ltb→lt}
 use lib.IntN.{ℤ, pos, negsuc, natAbs, _+ℤ_, _-ℤ_, _*ℤ_}
-use lib.ListN.{getD}
 use lib.Signed.{mag}
 use mir.Syntax.{Width}
 use mir.Val.{SFits, toZ, ofZ, hbits}
@@ -57,10 +55,6 @@ held w {v} r t = record { is = toZ-ofZ w v (in-range r t) ∙ r .is; within = r 
 -- a parameter, which is known to fit
 pub parameter : {w : Width} {z : ℤ} {n : ℕ} → SFits w z → Within n z → Reads (toZ w (ofZ w z)) z n
 parameter {w} {z} f h = record { is = toZ-ofZ w z f; within = h }
-
--- element k of a slice l
-pub element : (w : Width) (l : List ℤ) (k : ℕ) {n : ℕ} → mag (getD l k (pos 0)) < 2 ^ hbits w → Within n (getD l k (pos 0)) → Reads (toZ w (ofZ w (getD l k (pos 0)))) (getD l k (pos 0)) n
-element w l k f h = parameter (record { sfits = f }) h
 
 -- what a call returned is read back as it was, so it is the z of its contract; that it fits is the field `.ok` of the call
 pub returned : (w : Width) {r z : ℤ} → mag r < 2 ^ hbits w → r ≡ z → toZ w (ofZ w r) ≡ z

@@ -14,7 +14,7 @@ use Rattle.shape.specs.Flat.{Flat, isFlat}
 use Rattle.shape.specs.Verdicts.{Says}
 use Rattle.shape.proofs.FlatLaws.{is-flat}
 use Rattle.checks.specs.Answers.{refused, fine}
-use Rattle.kernel.specs.Grid.{limit, Ready}
+use Rattle.exact.specs.Grid.{limit, Ready}
 use Rattle.checks.specs.Grid.{lowestOff}
 use Rattle.checks.specs.Rules.{rightLength, allOnGrid, notFlat}
 use Rattle.checks.proofs.AnswerLaws.{never-fine}

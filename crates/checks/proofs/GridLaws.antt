@@ -16,7 +16,7 @@ use borrow.Author.Needs.{sfits-of}
 use Rattle.shape.specs.Verdicts.{Says}
 use Rattle.shape.proofs.FlatLaws.{below-says}
 use Rattle.shape.proofs.VerdictLaws.{says-itself}
-use Rattle.kernel.specs.Grid.{limit}
+use Rattle.exact.specs.Grid.{limit}
 use Rattle.checks.specs.Grid.{onGrid, lowestOff, allOn}
 
 -- ---- one number, against a limit m + 1

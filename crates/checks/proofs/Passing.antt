@@ -5,7 +5,7 @@ use Prim.Native.Nat.{ℕ, _*_}
 use lib.IntN.{ℤ}
 use lib.ListN.{length}
 use Rattle.shape.specs.Points.{pointsAt}
-use Rattle.kernel.specs.Grid.{Passed}
+use Rattle.exact.specs.Grid.{Passed}
 use Rattle.checks.specs.Answers.{fine, _then_}
 use Rattle.checks.specs.Rules.{rightLength, allOnGrid, notFlat, shapeChecks, pairChecks}
 use Rattle.checks.proofs.AnswerLaws.{then-fine}

@@ -1,4 +1,4 @@
--- The numbers of a list against the grid (document 01), whose end `limit` crate `kernel` names in its specs/Grid.antt.
+-- The numbers of a list against the grid (document 01), whose end `limit` crate `exact` names in its specs/Grid.antt.
 use mathlib.Core.Bool.{Bool, cond}
 use mathlib.Core.List.{List, [], _∷_}
 use Prim.Native.Nat.{ℕ, suc}
@@ -6,7 +6,7 @@ use lib.Dec.{leb}
 use lib.IntN.{ℤ, pos, natAbs}
 use lib.ListN.{length, getD}
 use Rattle.shape.specs.Flat.{allBelow}
-use Rattle.kernel.specs.Grid.{limit}
+use Rattle.exact.specs.Grid.{limit}
 
 abbrev pub onGrid : ℤ → Bool
 onGrid z = leb (natAbs z) limit

@@ -8,7 +8,7 @@ ghost use Rattle.checks.specs.Grid.{onGrid, lowestOff, allOn};
 ghost use Rattle.checks.specs.Rules.{rightLength, allOnGrid};
 ghost use Rattle.checks.specs.Told.{toldCheck};
 
-// Every coordinate lies from -LIMIT to LIMIT, ends included. specs/Grid.antt of crate `kernel` names the same number.
+// Every coordinate lies from -LIMIT to LIMIT, ends included. specs/Grid.antt of crate `exact` names the same number.
 const LIMIT: i32 = 524_288;
 
 // What a check finds.

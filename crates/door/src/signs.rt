@@ -8,7 +8,7 @@ use predicate::SignAnswer;
 ghost use mathlib.Core.Path.{_≡_};
 ghost use Rattle.checks.specs.Answers.{withServed};
 ghost use Rattle.predicate.specs.Rules.{signRule};
-ghost use Rattle.kernel.specs.Vectors.{signNumber};
+ghost use Rattle.exact.specs.Vectors.{signNumber};
 ghost use Rattle.predicate.specs.Told.{toldSign};
 ghost use Rattle.shape.specs.Signs.{digit};
 ghost use Rattle.door.specs.Numbers.{fourNumbers, listed};

@@ -1,16 +1,16 @@
 // The kinds of shapes: how many numbers a shape takes, and whether it is flat.
-use crate::determinant::SpacePoint;
-use crate::determinant::space_point;
-use crate::determinant::turn_of;
-use crate::space::axis_of;
-use crate::space::space_triangle;
+use exact::SpacePoint;
+use exact::space_point;
+use exact::turn_of;
+use space::axis_of;
+use space::space_triangle;
 ghost use mathlib.Core.Path.{_≡_};
 ghost use mathlib.Core.List.{[], _∷_};
 ghost use Rattle.shape.specs.Points.{pointsAt};
 ghost use Rattle.shape.specs.Flat.{isFlat};
-ghost use Rattle.kernel.specs.Grid.{limit, Ready};
+ghost use Rattle.exact.specs.Grid.{limit, Ready};
 ghost use Rattle.kernel.specs.Kinds.{coordinatesOf, cornersOf, numbersOf};
-ghost use Rattle.kernel.specs.Vectors.{spatial, Sized};
+ghost use Rattle.exact.specs.Vectors.{spatial, Sized};
 
 // The shapes that the verdict calls take.
 pub enum Kind {

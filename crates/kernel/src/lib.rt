@@ -1,16 +1,9 @@
-// The exact tests on shapes of the grid: the determinants of document 000 and their signs, and whether two shapes have a point in
-// common. The crate is the inside of the calls and offers none itself: its functions have a `requires`, since what is off the grid or flat is
-// refused before one of them is asked (crate `checks`), once for a shape and not once for a question about it.
-mod determinant;
+// The exact tests on shapes of the grid, a list each: whether a shape is flat, and whether two shapes have a point in common. The crate is the
+// inside of the calls and offers none itself: its functions have a `requires`, since what is off the grid or flat is refused before one of
+// them is asked (crate `checks`), once for a shape and not once for a question about it.
 mod kinds;
 mod meeting;
-mod plane;
-mod space;
 
-pub use determinant::Sign;
-pub use determinant::side_of;
-pub use determinant::sign_of;
-pub use determinant::turn_of;
 pub use kinds::Kind;
 pub use kinds::is_flat;
 pub use kinds::numbers_of;

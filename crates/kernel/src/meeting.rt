@@ -1,19 +1,18 @@
 // Whether two shapes that passed their checks have a point in common, a list each. What is promised is the definition, so the crates
 // above know nothing of the tests.
-use crate::determinant::SpacePoint;
-use crate::determinant::space_point;
-use crate::plane::plane_triangle;
-use crate::plane::planes_meet;
-use crate::space::normal_of;
-use crate::space::segment_meets_space;
-use crate::space::space_triangle;
-use crate::space::spaces_meet;
+use exact::SpacePoint;
+use exact::space_point;
+use plane::plane_triangle;
+use plane::planes_meet;
+use space::normal_of;
+use space::segment_meets_space;
+use space::space_triangle;
+use space::spaces_meet;
 ghost use mathlib.Core.Path.{_≡_};
 ghost use lib.ListN.{length};
-ghost use Rattle.kernel.specs.Grid.{Ready, Passed};
+ghost use Rattle.exact.specs.Grid.{Ready, Passed};
 ghost use Rattle.kernel.specs.Meeting.{Judges};
-ghost use Rattle.kernel.specs.Spaces.{normalIn};
-ghost use Rattle.kernel.specs.Vectors.{spatial};
+ghost use Rattle.exact.specs.Vectors.{spatial, normalIn};
 
 // Two triangles in the plane, six numbers each.
 pub fn flat_triangles_meet(first: &[i32], second: &[i32]) -> bool

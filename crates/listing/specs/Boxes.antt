@@ -7,8 +7,8 @@ use Prim.Native.Nat.{ℕ, _+_, _*_, _≤_, _<_}
 use lib.IntN.{ℤ, pos}
 use lib.ListN.{length, getD, take, drop}
 use lib.Signed.{ltZ}
-use Rattle.kernel.specs.Grid.{Passed}
-use Rattle.kernel.specs.Spaces.{normalIn}
+use Rattle.exact.specs.Grid.{Passed}
+use Rattle.exact.specs.Vectors.{normalIn}
 use Rattle.listing.specs.Rules.{triangles, nine}
 
 abbrev pub smaller : ℤ → ℤ → Bool

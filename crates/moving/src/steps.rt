@@ -7,7 +7,7 @@ ghost use Rattle.shape.specs.Points.{moved};
 ghost use Rattle.checks.specs.Grid.{onGrid, allOn};
 ghost use Rattle.moving.specs.Moves.{step, steps};
 
-// Every coordinate lies from -LIMIT to LIMIT, ends included. specs/Grid.antt of crate `kernel` names the same number.
+// Every coordinate lies from -LIMIT to LIMIT, ends included. specs/Grid.antt of crate `exact` names the same number.
 const LIMIT: i64 = 524_288;
 
 // The sum of a number and its step, or the same step backwards.

@@ -19,7 +19,7 @@ use Rattle.shape.specs.Verdicts.{Says}
 use Rattle.shape.proofs.SpaceTest.{space-test}
 use Rattle.shape.proofs.Trading.{share-trade}
 use Rattle.shape.proofs.VerdictLaws.{says-yes, says-no, says-same, says-fixed}
-use Rattle.kernel.specs.Grid.{Passed}
+use Rattle.exact.specs.Grid.{Passed}
 use Rattle.plate.specs.Slots.{Slot, free, held, triangle, isOf, Clash, Clashing, none, one, pass, Clashes, empty, with, PartsClash}
 use Rattle.plate.specs.Rules.{some}
 use Rattle.plate.specs.Plates.{numbersOf, markOf}

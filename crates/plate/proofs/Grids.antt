@@ -9,7 +9,7 @@ use lib.IntN.{ℤ, pos, natAbs}
 use lib.ListN.{getD, length, take, drop, replicate}
 use Rattle.algebra.proofs.Parts.{length-lent}
 use Rattle.shape.proofs.VerdictLaws.{says-yes, says-fixed}
-use Rattle.kernel.specs.Grid.{limit, Ready}
+use Rattle.exact.specs.Grid.{limit, Ready}
 use Rattle.checks.specs.Grid.{lowestOff, allOn}
 use Rattle.checks.proofs.GridLaws.{all-on, all-on-says, none-off}
 use Rattle.plate.specs.Slots.{Slot, free, held}

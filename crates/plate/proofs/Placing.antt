@@ -8,7 +8,7 @@ use borrow.Author.Tests.{ltb-false}
 use lib.Dec.{ltb}
 use lib.IntN.{ℤ}
 use lib.ListN.{length}
-use Rattle.kernel.specs.Grid.{Passed}
+use Rattle.exact.specs.Grid.{Passed}
 use Rattle.checks.specs.Answers.{refused, Check, fine, _then_}
 use Rattle.checks.specs.Rules.{rightLength, shapeChecks}
 use Rattle.checks.proofs.AnswerLaws.{never-fine, then-assoc, then-fine}

@@ -13,7 +13,7 @@ use Rattle.shape.specs.Points.{Shape, coord, moved, movedAll}
 use Rattle.shape.proofs.Lines.{flat-moved}
 use Rattle.shape.proofs.Trading.{coord-moved}
 use Rattle.shape.proofs.VerdictLaws.{says-yes, says-fixed}
-use Rattle.kernel.specs.Grid.{limit, Passed}
+use Rattle.exact.specs.Grid.{limit, Passed}
 use Rattle.checks.specs.Grid.{lowestOff, allOn}
 use Rattle.checks.proofs.GridLaws.{all-on, all-on-says, none-off}
 use Rattle.moving.specs.Moves.{steps}

@@ -6,7 +6,7 @@ use Prim.Native.Nat.{ℕ, _+_, _-_, _*_, _<_}
 use lib.IntN.{ℤ}
 use lib.ListN.{getD, take, drop}
 use Rattle.algebra.proofs.Parts.{part}
-use Rattle.kernel.specs.Grid.{Passed}
+use Rattle.exact.specs.Grid.{Passed}
 use Rattle.kernel.specs.Meeting.{Judges}
 use Rattle.plate.specs.Slots.{Slot, free}
 use Rattle.plate.specs.Plates.{markOf}

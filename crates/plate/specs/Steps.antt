@@ -5,7 +5,7 @@ use mathlib.Core.List.{List, _∷_, map}
 use Prim.Native.Nat.{ℕ, suc, min, _*_}
 use lib.IntN.{ℤ}
 use lib.ListN.{getD, length, set, take, drop}
-use Rattle.kernel.specs.Grid.{Passed}
+use Rattle.exact.specs.Grid.{Passed}
 use Rattle.checks.specs.Grid.{allOn}
 use Rattle.plate.specs.Slots.{Slot, free, held}
 use Rattle.plate.specs.Changes.{Change, shifted, apply}

@@ -7,7 +7,7 @@ ghost use mathlib.Core.Bool.{true};
 ghost use mathlib.Core.List.{List};
 ghost use Prim.Native.Nat.{_≤_, _<_};
 ghost use lib.ListN.{length, getD};
-ghost use Rattle.kernel.specs.Grid.{Passed};
+ghost use Rattle.exact.specs.Grid.{Passed};
 ghost use Rattle.checks.specs.Grid.{allOn};
 ghost use Rattle.plate.specs.Slots.{Slot, free};
 ghost use Rattle.plate.specs.Rules.{some};

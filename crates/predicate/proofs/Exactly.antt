@@ -11,7 +11,7 @@ use lib.ListN.{length}
 use Rattle.shape.specs.Points.{pointsAt}
 use Rattle.shape.specs.Signs.{bracket, sign}
 use Rattle.checks.specs.Answers.{Answer, served, Check, _then_, numberOf, sideOf, placeOf}
-use Rattle.kernel.specs.Grid.{Ready}
+use Rattle.exact.specs.Grid.{Ready}
 use Rattle.checks.specs.Rules.{rightLength, allOnGrid}
 use Rattle.predicate.specs.Rules.{valueRule, signRule}
 use Rattle.checks.proofs.AnswerLaws.{served-later}

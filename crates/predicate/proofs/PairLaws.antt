@@ -5,7 +5,7 @@ use mathlib.Core.Bool.{Bool, false}
 use mathlib.Core.List.{List}
 use Prim.Native.Nat.{ℕ}
 use lib.IntN.{ℤ}
-use Rattle.kernel.specs.Grid.{Passed}
+use Rattle.exact.specs.Grid.{Passed}
 use Rattle.kernel.specs.Meeting.{Judges}
 use Rattle.checks.specs.Answers.{Answer, served}
 use Rattle.checks.specs.Rules.{pairChecks}

@@ -10,11 +10,11 @@ use Rattle.shape.proofs.VerdictLaws.{says-fixed}
 use Rattle.checks.specs.Answers.{Answer, served, refused, Check, fine, _then_}
 use Rattle.predicate.specs.Rules.{valueRule, signRule, VerdictRule}
 use Rattle.checks.specs.Rules.{pairChecks}
-use Rattle.kernel.specs.Vectors.{signNumber}
+use Rattle.exact.specs.Vectors.{signNumber}
 use Rattle.predicate.specs.Told.{toldSign, toldValue, toldVerdict}
 use Rattle.checks.specs.declared.answer.Refusal.{Refusal}
-use Rattle.kernel.specs.declared.determinant.Sign.{Sign}
-use Rattle.kernel.specs.declared.determinant.Sign.the-variants.{Negative, Zero, Positive}
+use Rattle.exact.specs.declared.determinant.Sign.{Sign}
+use Rattle.exact.specs.declared.determinant.Sign.the-variants.{Negative, Zero, Positive}
 use Rattle.predicate.specs.declared.answer.SignAnswer.{SignAnswer}
 use Rattle.predicate.specs.declared.answer.SignAnswer.the-variants.{Signed, Refused as SignRefused}
 use Rattle.predicate.specs.declared.answer.ValueAnswer.{ValueAnswer}

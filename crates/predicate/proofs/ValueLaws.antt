@@ -6,7 +6,7 @@ use lib.IntN.{ℤ}
 use Rattle.shape.specs.Points.{pointsAt}
 use Rattle.shape.specs.Signs.{bracket}
 use Rattle.checks.specs.Answers.{Answer, served, Check, fine, _then_, numberOf}
-use Rattle.kernel.specs.Grid.{Ready}
+use Rattle.exact.specs.Grid.{Ready}
 use Rattle.checks.specs.Rules.{rightLength, allOnGrid}
 use Rattle.predicate.specs.Rules.{valueRule}
 use Rattle.checks.specs.Told.{toldCheck, toldRefusal}

@@ -2,7 +2,7 @@
 -- of what is served.
 use mathlib.Core.Bool.{Bool, true, false}
 use lib.IntN.{ℤ}
-use Rattle.kernel.specs.Vectors.{signNumber}
+use Rattle.exact.specs.Vectors.{signNumber}
 use Rattle.checks.specs.Answers.{Answer, served}
 use Rattle.checks.specs.Told.{toldRefusal}
 use Rattle.predicate.specs.declared.answer.SignAnswer.{SignAnswer}

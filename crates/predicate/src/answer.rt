@@ -1,6 +1,6 @@
 // What the calls answer. specs/Told.antt gives document 01's number, side, place and value for each case.
 use checks::Refusal;
-use kernel::Sign;
+use exact::Sign;
 
 pub enum SignAnswer {
     Signed(Sign),

@@ -12,7 +12,7 @@ pub use answer::SignAnswer;
 pub use answer::ValueAnswer;
 pub use answer::VerdictAnswer;
 pub use checks::Refusal;
-pub use kernel::Sign;
+pub use exact::Sign;
 pub use signs::side_sign;
 pub use signs::side_value;
 pub use signs::turn_sign;

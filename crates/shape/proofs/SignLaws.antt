@@ -5,12 +5,12 @@ use mathlib.Core.Path.{_≡_, refl, sym, _∙_, ap}
 use mathlib.Core.List.{List, [], _∷_, _++_, append-assoc, append-nil}
 use Prim.Native.Nat.{ℕ, zero, suc}
 use lib.ListN.{length}
-use lib.IntN.{ℤ, pos, negsuc, negℤ, _+ℤ_}
+use lib.IntN.{ℤ, pos, negℤ, _+ℤ_}
 use Rattle.algebra.proofs.Expression.{var, lit, _⊞_, neg}
 use Rattle.algebra.proofs.Solver.{ring}
 use Rattle.algebra.proofs.Certificate.{_≐_, eqn, num, prove≡}
 use Rattle.shape.specs.Points.{Point, coord, moved, movedAll}
-use Rattle.shape.specs.Signs.{turn, side, bracket, sign}
+use Rattle.shape.specs.Signs.{turn, side, bracket}
 use Rattle.shape.proofs.Symbols.{values, O, PointE, point, turnOf, sideOf, turnE, sideE}
 use Rattle.shape.proofs.Trading.{coord-moved}
 
@@ -102,9 +102,3 @@ bracket-moved d (a ∷ b ∷ c ∷ e ∷ []) =
     (λ i. side (seen-moved d a i) (seen-moved d b i) (seen-moved d c i) (seen-moved d e i))
     ∙ ring (values (d ∷ a ∷ b ∷ c ∷ e ∷ [])) (sideOf (addedE 1) (addedE 2) (addedE 3) (addedE 4)) (sideE 1 2 3 4) tt refl
 bracket-moved d (a ∷ b ∷ c ∷ e ∷ f ∷ more) = refl
-
--- The sign of the opposite is the opposite sign.
-pub sign-opposite : (z : ℤ) → sign (negℤ z) ≡ negℤ (sign z)
-sign-opposite (pos zero) = refl
-sign-opposite (pos (suc n)) = refl
-sign-opposite (negsuc n) = refl

@@ -9,7 +9,7 @@ use lib.IntN.{pos}
 use lib.ListN.{length, getD}
 use Rattle.shape.specs.Flat.{allBelow}
 use Rattle.checks.specs.Grid.{onGrid}
-use Rattle.kernel.proofs.Branches.{if-taken, if-left}
+use Rattle.exact.proofs.Branches.{if-taken, if-left}
 use Rattle.checks.proofs.GridLaws.{tested-off, tested-on}
 use Rattle.checks.proofs.grid.all_on.Statement.{statement}
 use Rattle.checks.proofs.grid.all_on.Tie as tie

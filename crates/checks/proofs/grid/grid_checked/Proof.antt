@@ -7,7 +7,7 @@ use borrow.Author.Tests.{ltb-true}
 use lib.ListN.{length}
 use Rattle.checks.specs.Answers.{refused}
 use Rattle.checks.specs.Grid.{lowestOff}
-use Rattle.kernel.proofs.Branches.{if-taken, if-left}
+use Rattle.exact.proofs.Branches.{if-taken, if-left}
 use Rattle.checks.proofs.GridLaws.{none-off, one-off}
 use Rattle.checks.proofs.grid.grid_checked.Statement.{statement}
 use Rattle.checks.proofs.grid.grid_checked.Tie as tie

@@ -3,7 +3,7 @@ use mathlib.Core.List.{[], _∷_}
 use native.Mathlib.Omega.{arith}
 use borrow.Author.Needs.{needs}
 use lib.ListN.{length-set}
-use Rattle.kernel.proofs.Readings.{all-stored}
+use Rattle.exact.proofs.Readings.{all-stored}
 use Rattle.door.proofs.plates.put_six.Statement.{statement}
 use Rattle.door.proofs.plates.put_six.Tie as tie
 

@@ -2,8 +2,8 @@
 -- Assumes nothing.
 use borrow.Author.Needs.{needs}
 use mathlib.Core.Path.{_≡_, sym, ap}
-use Rattle.kernel.specs.Vectors.{signNumber}
-use Rattle.kernel.specs.declared.determinant.Sign.{Sign}
+use Rattle.exact.specs.Vectors.{signNumber}
+use Rattle.exact.specs.declared.determinant.Sign.{Sign}
 use Rattle.shape.specs.Signs.{digit}
 use Rattle.door.proofs.signs.sign_code.Statement.{statement}
 use Rattle.door.proofs.signs.sign_code.Tie as tie

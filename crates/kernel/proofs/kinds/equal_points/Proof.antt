@@ -1,7 +1,7 @@
 -- `kernel::kinds::equal_points` meets its contract: coordinate by coordinate, z first. Assumes nothing.
 use mathlib.Core.Path.{refl, sym}
-use Rattle.kernel.proofs.Branches.{if-taken, if-left, as-it-is}
-use Rattle.kernel.proofs.Readings.{same-kept, not-same-kept, same-kept-test}
+use Rattle.exact.proofs.Branches.{if-taken, if-left, as-it-is}
+use Rattle.exact.proofs.Readings.{same-kept, not-same-kept, same-kept-test}
 use Rattle.kernel.proofs.kinds.equal_points.Statement.{statement}
 use Rattle.kernel.proofs.kinds.equal_points.Tie as tie
 

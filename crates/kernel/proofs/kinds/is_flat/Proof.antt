@@ -13,12 +13,12 @@ use Rattle.shape.specs.Flat.{isFlat}
 use Rattle.shape.proofs.FlatLaws.{is-flat, is-flat-in-plane}
 use Rattle.shape.proofs.VerdictLaws.{says-fixed}
 use Rattle.shape.proofs.Dropping.{axis-says}
-use Rattle.kernel.specs.Grid.{Ready}
+use Rattle.exact.specs.Grid.{Ready}
 use Rattle.kernel.specs.Kinds.{coordinatesOf, cornersOf, numbersOf}
 use Rattle.kernel.specs.declared.kinds.Kind.{Kind}
-use Rattle.kernel.proofs.GridLaws.{sized-point}
-use Rattle.kernel.proofs.Readings.{zero-kept-test}
-use Rattle.kernel.proofs.SpaceLaws.{space-size-at, space-at}
+use Rattle.exact.proofs.GridLaws.{sized-point}
+use Rattle.exact.proofs.Readings.{zero-kept-test}
+use Rattle.space.proofs.SpaceLaws.{space-size-at, space-at}
 use Rattle.kernel.proofs.kinds.is_flat.Statement.{statement}
 use Rattle.kernel.proofs.kinds.is_flat.Tie as tie
 

@@ -4,7 +4,7 @@ use mathlib.Core.Bool.{Bool}
 use Rattle.shape.specs.PlaneTest.{triangleTest}
 use Rattle.shape.proofs.PlaneTest.{triangle-test}
 use Rattle.kernel.specs.Meeting.{Judges}
-use Rattle.kernel.proofs.PlaneLaws.{sized-triangle}
+use Rattle.plane.proofs.PlaneLaws.{sized-triangle}
 use Rattle.kernel.proofs.meeting.flat_triangles_meet.Statement.{statement}
 use Rattle.kernel.proofs.meeting.flat_triangles_meet.Tie as tie
 

@@ -1,7 +1,8 @@
 -- `kernel::meeting::known_triangles_meet` meets its contract: the test is right on triangles that are not flat. Assumes nothing.
 use mathlib.Core.Path.{ap, _∙_}
 use lib.ListN.{length}
-use Rattle.kernel.proofs.SpaceLaws.{judged, sized-triangle, normal-in}
+use Rattle.space.proofs.SpaceLaws.{sized-triangle, normal-in}
+use Rattle.kernel.proofs.Judging.{judged}
 use Rattle.kernel.proofs.meeting.known_triangles_meet.Statement.{statement}
 use Rattle.kernel.proofs.meeting.known_triangles_meet.Tie as tie
 

@@ -1,6 +1,6 @@
 -- `kernel::meeting::normal_in` meets its contract: three numbers are read. Assumes nothing.
 use borrow.Author.Needs.{needs}
-use Rattle.kernel.proofs.Readings.{three-read}
+use Rattle.exact.proofs.Readings.{three-read}
 use Rattle.kernel.proofs.meeting.normal_in.Statement.{statement}
 use Rattle.kernel.proofs.meeting.normal_in.Tie as tie
 

@@ -2,9 +2,9 @@
 use mathlib.Core.Path.{_∙_}
 use mathlib.Core.List.{[], _∷_}
 use borrow.Author.Needs.{needs}
-use Rattle.kernel.specs.Spaces.{normalOf}
-use Rattle.kernel.proofs.Readings.{coordinate, all-stored}
-use Rattle.kernel.proofs.SpaceLaws.{sized-triangle, space-at}
+use Rattle.exact.specs.Vectors.{normalOf}
+use Rattle.exact.proofs.Readings.{coordinate, all-stored}
+use Rattle.space.proofs.SpaceLaws.{sized-triangle, space-at}
 use Rattle.kernel.proofs.meeting.put_normal.Statement.{statement}
 use Rattle.kernel.proofs.meeting.put_normal.Tie as tie
 

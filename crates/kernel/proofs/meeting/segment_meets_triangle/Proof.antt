@@ -5,8 +5,8 @@ use native.Mathlib.Omega.{arith}
 use Rattle.shape.specs.SpaceTest.{segmentSpaceTest}
 use Rattle.shape.proofs.SpaceTest.{segment-space-test}
 use Rattle.kernel.specs.Meeting.{Judges}
-use Rattle.kernel.proofs.GridLaws.{sized-point}
-use Rattle.kernel.proofs.SpaceLaws.{sized-triangle}
+use Rattle.exact.proofs.GridLaws.{sized-point}
+use Rattle.space.proofs.SpaceLaws.{sized-triangle}
 use Rattle.kernel.proofs.meeting.segment_meets_triangle.Statement.{statement}
 use Rattle.kernel.proofs.meeting.segment_meets_triangle.Tie as tie
 

@@ -1,5 +1,6 @@
 -- `kernel::meeting::triangles_meet` meets its contract: the test is right on triangles that are not flat. Assumes nothing.
-use Rattle.kernel.proofs.SpaceLaws.{judged, sized-triangle}
+use Rattle.space.proofs.SpaceLaws.{sized-triangle}
+use Rattle.kernel.proofs.Judging.{judged}
 use Rattle.kernel.proofs.meeting.triangles_meet.Statement.{statement}
 use Rattle.kernel.proofs.meeting.triangles_meet.Tie as tie
 

@@ -1,7 +1,7 @@
 -- `listing::boxes::apart_along` meets its contract: the two tests are of the numbers read. Assumes nothing.
 use mathlib.Core.Path.{refl}
 use borrow.Author.Needs.{needs}
-use Rattle.kernel.proofs.Branches.{if-taken, if-left}
+use Rattle.exact.proofs.Branches.{if-taken, if-left}
 use Rattle.listing.proofs.BoxLaws.{before-read}
 use Rattle.listing.proofs.boxes.apart_along.Statement.{statement}
 use Rattle.listing.proofs.boxes.apart_along.Tie as tie

@@ -1,7 +1,7 @@
 -- `listing::boxes::boxes_apart` meets its contract: the first coordinate at which they are apart decides. Assumes nothing.
 use mathlib.Core.Path.{refl}
 use native.Mathlib.Omega.{arith}
-use Rattle.kernel.proofs.Branches.{if-taken, if-left}
+use Rattle.exact.proofs.Branches.{if-taken, if-left}
 use Rattle.listing.proofs.boxes.boxes_apart.Statement.{statement}
 use Rattle.listing.proofs.boxes.boxes_apart.Tie as tie
 

@@ -4,7 +4,7 @@ use mathlib.Core.List.{[], _∷_}
 use borrow.Author.Needs.{needs}
 use mir.Syntax.{w32}
 use Rattle.algebra.proofs.Machine.{returned}
-use Rattle.kernel.proofs.Readings.{all-stored}
+use Rattle.exact.proofs.Readings.{all-stored}
 use Rattle.listing.proofs.boxes.put_box.Statement.{statement}
 use Rattle.listing.proofs.boxes.put_box.Tie as tie
 

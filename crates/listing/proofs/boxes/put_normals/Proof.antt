@@ -9,8 +9,8 @@ use borrow.Rule.Slice.PartMut.{same-len-mid}
 use lib.IntN.{ℤ}
 use lib.ListN.{length}
 use Rattle.algebra.proofs.Parts.{length-lent, part, parts-more}
-use Rattle.kernel.specs.Grid.{Ready}
-use Rattle.kernel.specs.Spaces.{normalIn}
+use Rattle.exact.specs.Grid.{Ready}
+use Rattle.exact.specs.Vectors.{normalIn}
 use Rattle.listing.specs.Boxes.{three}
 use Rattle.listing.specs.Rules.{nine}
 use Rattle.listing.proofs.boxes.put_normals.Statement.{statement}

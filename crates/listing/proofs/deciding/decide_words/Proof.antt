@@ -7,8 +7,8 @@ use borrow.Author.Needs.{needs}
 use lib.IntN.{ℤ}
 use lib.ListN.{length, length-set}
 use Rattle.algebra.proofs.Parts.{part}
-use Rattle.kernel.specs.Grid.{Passed}
-use Rattle.kernel.specs.Spaces.{normalIn}
+use Rattle.exact.specs.Grid.{Passed}
+use Rattle.exact.specs.Vectors.{normalIn}
 use Rattle.listing.specs.Boxes.{boxOf}
 use Rattle.listing.specs.Rules.{triangles, nine}
 use Rattle.listing.specs.Words.{Verdicts, VerdictsBelow, onesBelow, ones, span, firstOf}

@@ -8,9 +8,9 @@ use lib.IntN.{ℤ}
 use lib.ListN.{length}
 use Rattle.algebra.proofs.Parts.{part, length-lent}
 use Rattle.shape.proofs.VerdictLaws.{says-no}
-use Rattle.kernel.specs.Grid.{Passed}
+use Rattle.exact.specs.Grid.{Passed}
 use Rattle.kernel.specs.Meeting.{Judges}
-use Rattle.kernel.specs.Spaces.{normalIn}
+use Rattle.exact.specs.Vectors.{normalIn}
 use Rattle.listing.specs.Boxes.{boxesApart}
 use Rattle.listing.specs.Rules.{nine}
 use Rattle.listing.proofs.BoxLaws.{boxes-apart}

@@ -7,7 +7,7 @@ use lib.IntN.{ℤ, natAbs, _+ℤ_}
 use mir.Syntax.{w32, w64}
 use mir.Val.{toZ, ofZ}
 use Rattle.algebra.proofs.Machine.{Reads, held, in-range, returned}
-use Rattle.kernel.specs.Grid.{limit}
+use Rattle.exact.specs.Grid.{limit}
 use Rattle.moving.specs.Moves.{step}
 use Rattle.moving.proofs.MoveLaws.{sum-read, sum-off, sum-on}
 use Rattle.moving.proofs.steps.landed.Statement.{statement}

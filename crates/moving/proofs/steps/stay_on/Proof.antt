@@ -12,7 +12,7 @@ use lib.ListN.{length, getD}
 use Rattle.shape.specs.Flat.{allBelow}
 use Rattle.shape.specs.Points.{moved}
 use Rattle.shape.proofs.Trading.{coord-moved}
-use Rattle.kernel.proofs.Branches.{if-taken, if-left}
+use Rattle.exact.proofs.Branches.{if-taken, if-left}
 use Rattle.checks.specs.Grid.{onGrid}
 use Rattle.moving.proofs.MoveLaws.{length-moved, sum-read, sum-off, sum-on}
 use Rattle.moving.proofs.steps.stay_on.Statement.{statement}

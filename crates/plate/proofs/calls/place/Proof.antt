@@ -8,7 +8,7 @@ use native.Mathlib.Omega.{arith}
 use borrow.Author.Needs.{needs}
 use lib.IntN.{ℤ}
 use lib.ListN.{length}
-use Rattle.kernel.specs.Grid.{Passed}
+use Rattle.exact.specs.Grid.{Passed}
 use Rattle.checks.specs.Answers.{fine}
 use Rattle.checks.specs.Told.{toldCheck}
 use Rattle.checks.proofs.AnswerLaws.{stopped}

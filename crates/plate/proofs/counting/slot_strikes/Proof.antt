@@ -4,7 +4,7 @@ use mathlib.Core.Path.{refl}
 use mathlib.Core.Bool.{false}
 use borrow.Author.Needs.{needs}
 use lib.ListN.{getD}
-use Rattle.kernel.proofs.Branches.{if-equal, if-different}
+use Rattle.exact.proofs.Branches.{if-equal, if-different}
 use Rattle.plate.specs.Slots.{free}
 use Rattle.plate.specs.Counting.{strikesMark}
 use Rattle.plate.proofs.Arrays.{mark-is}

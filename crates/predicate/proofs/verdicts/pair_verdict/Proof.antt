@@ -1,7 +1,7 @@
 -- `predicate::verdicts::pair_verdict` meets its contract: what the checks refuse is refused, and what they pass is judged by the definition.
 -- Assumes nothing.
 use borrow.Author.Needs.{needs}
-use Rattle.kernel.specs.Grid.{Passed}
+use Rattle.exact.specs.Grid.{Passed}
 use Rattle.predicate.proofs.PairLaws.{found-fine, refused-by-checks, judged}
 use Rattle.predicate.proofs.verdicts.pair_verdict.Statement.{statement}
 use Rattle.predicate.proofs.verdicts.pair_verdict.Tie as tie

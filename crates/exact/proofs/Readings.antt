@@ -1,0 +1,187 @@
+-- Coordinates as the code holds them: each is the whole number that is meant, and no larger than the grid allows. Here stand
+-- the readings of a coordinate, of a difference, of products, of a vector and of a plane's normal, which the leaves' proofs put together;
+-- and lists whose numbers are read or stored one by one. Assumes nothing.
+use mathlib.Core.Path.{_≡_, refl, sym, ap, _∙_}
+use mathlib.Core.Bool.{Bool, true, false}
+use mathlib.Core.List.{List, [], _∷_, _++_, append-nil}
+use Prim.Native.Nat.{ℕ, zero, suc, _+_, _*_, _^_, _≤_, _<_}
+use native.Mathlib.Omega.{arith}
+use borrow.Author.Tests.{eqb-true, eqb-false}
+use lib.Dec.{T, ltb, eqb}
+use lib.IntN.{ℤ, pos, natAbs, _+ℤ_, _-ℤ_, _*ℤ_, +ℤ-invr}
+use lib.ListN.{length, getD, drop-of-length-le}
+use lib.Seq.{sets, sets-eq}
+use lib.Signed.{mag}
+use mir.Syntax.{w64}
+use mir.Val.{toZ, ofZ, hbits}
+use Rattle.algebra.proofs.Solver.{ring}
+use Rattle.algebra.proofs.Expression.{_⊞_, _⊠_}
+use Rattle.algebra.proofs.Order.{eq-of-sub}
+use Rattle.algebra.proofs.Machine.{Reads, exact, held, returned, size, sum, difference, product}
+use Rattle.shape.specs.Points.{Point, coord}
+use Rattle.shape.specs.Signs.{turn, side, row, minor, determinant}
+use Rattle.shape.specs.Flat.{isZero}
+use Rattle.shape.proofs.FlatLaws.{zero-says}
+use Rattle.shape.proofs.VerdictLaws.{says-no, says-fixed}
+use Rattle.shape.proofs.Symbols.{values, point, rowE, minorE, determinantE, sideOf}
+use Rattle.exact.specs.Grid.{limit}
+use Rattle.exact.specs.Vectors.{Sized, differenceSize, minorSize, minors, dot, normalOf}
+
+-- A number stored in 64 bits and read back.
+abbrev pub kept : ℤ → ℤ
+kept z = toZ w64 (ofZ w64 z)
+
+-- Coordinate i of a point whose coordinates are no larger than n.
+pub coordinate : {n : ℕ} {a : Point} → T (ltb n (2 ^ hbits w64)) → Sized n a → (i : ℕ) →
+    Reads (kept (coord i a)) (coord i a) n
+coordinate t s i = held w64 (exact (record { abs = s .each i })) t
+
+-- A difference of two coordinates, before and after it is stored.
+pub gap : {a c : Point} → Sized limit a → Sized limit c → (i : ℕ) →
+    Reads (kept (coord i a) -ℤ kept (coord i c)) (coord i a -ℤ coord i c) differenceSize
+gap s t i = difference (coordinate tt s i) (coordinate tt t i)
+
+abbrev pub storedGap : ℕ → Point → Point → ℤ
+storedGap i a c = kept (kept (coord i a) -ℤ kept (coord i c))
+
+pub stored-gap : {a c : Point} → Sized limit a → Sized limit c → (i : ℕ) → Reads (storedGap i a c) (coord i a -ℤ coord i c) differenceSize
+stored-gap s t i = held w64 (gap s t i) tt
+
+-- The turn of three points, whose differences and products were stored.
+pub turn-read : {a b c : Point} → Sized limit a → Sized limit b → Sized limit c →
+    Reads (kept (storedGap 0 a c *ℤ storedGap 1 b c) -ℤ kept (storedGap 1 a c *ℤ storedGap 0 b c)) (turn a b c) minorSize
+turn-read p q r =
+    difference
+    (held w64 (product (stored-gap p r 0) (stored-gap q r 1)) tt)
+    (held w64 (product (stored-gap p r 1) (stored-gap q r 0)) tt)
+
+-- A product of two coordinates.
+pub times : {m n : ℕ} {u v : Point} → T (ltb m (2 ^ hbits w64)) → T (ltb n (2 ^ hbits w64)) → Sized m u → Sized n v → (i j : ℕ) →
+    Reads (kept (coord i u) *ℤ kept (coord j v)) (coord i u *ℤ coord j v) (m * n)
+times t t′ s r i j = product (coordinate t s i) (coordinate t′ r j)
+
+-- A minor of two rows of differences, whose two products were stored.
+pub minor-read : {u v : Point} → Sized differenceSize u → Sized differenceSize v → (i j : ℕ) →
+    Reads (kept (kept (coord i u) *ℤ kept (coord j v)) -ℤ kept (kept (coord j u) *ℤ kept (coord i v))) (minor i j u v) minorSize
+minor-read s r i j = difference (held w64 (times tt tt s r i j) tt) (held w64 (times tt tt s r j i) tt)
+
+-- The products of a row of differences and a vector of minors, summed from the left, each step stored: after two and after all.
+module _ {u n : Point} (s : Sized differenceSize u) (r : Sized minorSize n) where
+  abbrev product-at : ℕ → ℤ
+  product-at i = kept (coord i u) *ℤ kept (coord i n)
+
+  abbrev productSize : ℕ
+  productSize = differenceSize * minorSize
+
+  stored : (i : ℕ) → Reads (kept (product-at i)) (coord i u *ℤ coord i n) productSize
+  stored i = held w64 (times tt tt s r i i) tt
+
+  pub two-products : Reads (kept (product-at 0) +ℤ kept (product-at 1)) (coord 0 u *ℤ coord 0 n +ℤ coord 1 u *ℤ coord 1 n) (productSize + productSize)
+  two-products = sum (stored 0) (stored 1)
+
+  pub three-products : Reads (kept (kept (product-at 0) +ℤ kept (product-at 1)) +ℤ kept (product-at 2)) (dot u n) (productSize + productSize + productSize)
+  three-products = sum (held w64 two-products tt) (stored 2)
+
+-- Three readings make a vector: it is the one meant, and no coordinate is larger than n.
+pub vector : {x y z x′ y′ z′ : ℤ} {n : ℕ} → Reads x x′ n → Reads y y′ n → Reads z z′ n →
+    (_≡_ {A = Point} (x ∷ y ∷ z ∷ []) (x′ ∷ y′ ∷ z′ ∷ [])) × Sized n (x ∷ y ∷ z ∷ [])
+vector {x} {y} {z} {n} p q r = ((λ i. p .is i ∷ q .is i ∷ r .is i ∷ []), record { each = each })
+  where
+    each : (i : ℕ) → natAbs (coord i (x ∷ y ∷ z ∷ [])) ≤ n
+    each zero = size p .abs
+    each (suc zero) = size q .abs
+    each (suc (suc zero)) = size r .abs
+    each (suc (suc (suc i))) = omega arith
+
+-- The 3 by 3 determinant is the first row times the minors of the other two.
+pub determinant-by-minors : (u v w : Point) → dot u (minors v w) ≡ determinant u v w
+determinant-by-minors u v w =
+    ring (values (u ∷ v ∷ w ∷ []))
+    (point 0 0 ⊠ minorE 1 2 (point 1) (point 2) ⊞ point 0 1 ⊠ minorE 2 0 (point 1) (point 2) ⊞ point 0 2 ⊠ minorE 0 1 (point 1) (point 2))
+    (determinantE (point 0) (point 1) (point 2)) tt refl
+
+-- ---- a list whose numbers are all stored anew, one by one
+pub all-stored : {A : Type 0} (new old : List A) → length old ≡ length new → sets old 0 new ≡ new
+all-stored {A} new old e =
+    sets-eq new old 0 (omega arith)
+    ∙ ap (λ (rest : List A). new ++ rest) (drop-of-length-le old {i = 0 + length new} (omega arith))
+    ∙ append-nil new
+
+-- ---- three numbers of a list
+module _ (l : List ℤ) (long : length l ≡ 3) where
+  abbrev at : ℕ → ℤ
+  at i = getD l i (pos 0)
+
+  are-all : (l : List ℤ) → length l ≡ 3 → getD l 0 (pos 0) ∷ getD l 1 (pos 0) ∷ getD l 2 (pos 0) ∷ [] ≡ l
+  are-all [] e = absurd (omega arith)
+  are-all (x ∷ []) e = absurd (omega arith)
+  are-all (x ∷ y ∷ []) e = absurd (omega arith)
+  are-all (x ∷ y ∷ z ∷ []) e = refl
+  are-all (x ∷ y ∷ z ∷ w ∷ l) e = absurd (omega arith)
+
+  -- Read one by one they are the list.
+  pub three-read : mag (at 0) < 2 ^ hbits w64 → mag (at 1) < 2 ^ hbits w64 → mag (at 2) < 2 ^ hbits w64 →
+      kept (at 0) ∷ kept (at 1) ∷ kept (at 2) ∷ [] ≡ l
+  three-read f g h =
+      (λ i. returned w64 {r = at 0} {z = at 0} f refl i ∷ returned w64 {r = at 1} {z = at 1} g refl i ∷ returned w64 {r = at 2} {z = at 2} h refl i ∷ [])
+      ∙ are-all l long
+
+-- ---- the normal of a plane
+-- The determinant is the row of the first corner times the normal, whatever the fourth point is.
+pub side-by-normal : (p q r d : Point) → dot (row p d) (normalOf p q r) ≡ side p q r d
+side-by-normal p q r d =
+    let u = rowE (point 1) (point 0) in
+    let v = rowE (point 2) (point 0) in
+    ring (values (p ∷ q ∷ r ∷ d ∷ []))
+    (rowE (point 0) (point 3) 0 ⊠ minorE 1 2 u v ⊞ rowE (point 0) (point 3) 1 ⊠ minorE 2 0 u v ⊞ rowE (point 0) (point 3) 2 ⊠ minorE 0 1 u v)
+    (sideOf (point 0) (point 1) (point 2) (point 3)) tt refl
+
+sized-row : {a d : Point} → Sized limit a → Sized limit d → Sized differenceSize (row a d)
+sized-row s t = vector (exact (gap s t 0 .within)) (exact (gap s t 1 .within)) (exact (gap s t 2 .within)) .1
+
+pub sized-normal : {p q r : Point} → Sized limit p → Sized limit q → Sized limit r → Sized minorSize (normalOf p q r)
+sized-normal {p} {q} {r} a b c =
+    let u : Sized differenceSize (row q p) = sized-row b a in
+    let v : Sized differenceSize (row r p) = sized-row c a in
+    vector (exact (minor-read u v 1 2 .within)) (exact (minor-read u v 2 0 .within)) (exact (minor-read u v 0 1 .within)) .1
+
+-- ---- what the machine's tests of equality tell
+-- A test of two numbers by their bits is one of the whole numbers.
+by-bits : (x y : ℕ) (t : Bool) → (x ≡ y → t ≡ true) → ((x ≡ y → ⊥) → t ≡ false) → eqb x y ≡ t
+by-bits x y t same other = by-test (eqb x y) refl
+  where
+    by-test : (b : Bool) → eqb x y ≡ b → eqb x y ≡ t
+    by-test true e = e ∙ sym (same (eqb-true x y e))
+    by-test false e = e ∙ sym (other (eqb-false x y e))
+
+pub zero-test : {z : ℤ} → z ≡ pos 0 → isZero z ≡ true
+zero-test e = ap isZero e
+
+pub not-zero-test : (z : ℤ) → (z ≡ pos 0 → ⊥) → isZero z ≡ false
+not-zero-test z h = says-fixed (zero-says z) (says-no h)
+
+-- A value that is the z of its contract, against 0.
+module _ {r z : ℤ} (fits : mag r < 2 ^ hbits w64) (e : r ≡ z) where
+  pub zero-kept : ofZ w64 r ≡ 0 → z ≡ pos 0
+  zero-kept h = sym (returned w64 fits e) ∙ ap (toZ w64) h
+
+  pub not-zero-kept : (ofZ w64 r ≡ 0 → ⊥) → z ≡ pos 0 → ⊥
+  not-zero-kept h f = h (ap (ofZ w64) (e ∙ f))
+
+  pub zero-kept-test : eqb (ofZ w64 r) 0 ≡ isZero z
+  zero-kept-test = by-bits (ofZ w64 r) 0 (isZero z) (λ h. zero-test (zero-kept h)) (λ h. not-zero-test z (not-zero-kept h))
+
+-- Coordinate i of two points.
+module _ {a b : Point} (s : Sized limit a) (r : Sized limit b) (i : ℕ) where
+  abbrev equal : Bool
+  equal = isZero (coord i b -ℤ coord i a)
+
+  pub same-kept : ofZ w64 (coord i a) ≡ ofZ w64 (coord i b) → equal ≡ true
+  same-kept h =
+      zero-test (ap (λ (z : ℤ). coord i b -ℤ z) (sym (coordinate tt s i .is) ∙ ap (toZ w64) h ∙ coordinate tt r i .is) ∙ +ℤ-invr (coord i b))
+
+  pub not-same-kept : (ofZ w64 (coord i a) ≡ ofZ w64 (coord i b) → ⊥) → equal ≡ false
+  not-same-kept h = not-zero-test (coord i b -ℤ coord i a) (λ e. h (ap (ofZ w64) (eq-of-sub (coord i a) (coord i b) e)))
+
+  pub same-kept-test : eqb (ofZ w64 (coord i a)) (ofZ w64 (coord i b)) ≡ equal
+  same-kept-test = by-bits (ofZ w64 (coord i a)) (ofZ w64 (coord i b)) equal same-kept not-same-kept

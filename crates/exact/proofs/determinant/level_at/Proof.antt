@@ -1,0 +1,23 @@
+-- `exact::determinant::level_at` meets its contract: the level is that of the determinant. Assumes nothing.
+use mathlib.Core.Path.{ap, _∙_}
+use borrow.Author.Needs.{needs}
+use lib.IntN.{ℤ}
+use mir.Syntax.{w64}
+use Rattle.algebra.proofs.Machine.{returned}
+use Rattle.shape.specs.Signs.{sign, digit}
+use Rattle.exact.proofs.determinant.level_at.Statement.{statement}
+use Rattle.exact.proofs.determinant.level_at.Tie as tie
+
+side-at-requires : tie.Need-side-at-requires
+side-at-requires c κs = search needs
+
+level-of-requires : tie.Need-level-of-requires
+level-of-requires c κs = search needs
+
+returns : tie.Need-returns
+returns c =
+    let s = c .before .side-at in
+    (c .level-of .ensures .0 ∙ ap (λ (z : ℤ). digit (sign z)) (returned w64 (s .ok) (s .ensures)), c .level-of .ensures .1)
+
+pub level-at-spec : {M : Type 1} → statement M
+level-at-spec = tie.close (tie.spec side-at-requires level-of-requires returns)

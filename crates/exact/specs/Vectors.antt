@@ -1,0 +1,50 @@
+-- The vocabulary of the leaves in src/determinant.rt: points and vectors as the code holds them, how large their coordinates
+-- can be, the 3 by 3 determinant as a product of a row with the minors of the other two, and the normal of a plane.
+use mathlib.Core.List.{List, [], _∷_}
+use Prim.Native.Nat.{ℕ, _+_, _*_, _≤_}
+use lib.IntN.{ℤ, pos, negsuc, natAbs, _+ℤ_, _*ℤ_}
+use Rattle.shape.specs.Points.{Point, coord, pointAt}
+use Rattle.shape.specs.Signs.{row, minor}
+use Rattle.exact.specs.Grid.{limit}
+use Rattle.exact.specs.declared.determinant.PlanePoint.{PlanePoint}
+use Rattle.exact.specs.declared.determinant.SpacePoint.{SpacePoint}
+use Rattle.exact.specs.declared.determinant.Sign.{Sign}
+use Rattle.exact.specs.declared.determinant.Sign.the-variants.{Negative, Zero, Positive}
+
+abbrev pub planar : PlanePoint → Point
+planar p = p .x ∷ p .y ∷ []
+
+abbrev pub spatial : SpacePoint → Point
+spatial p = p .x ∷ p .y ∷ p .z ∷ []
+
+-- No coordinate is larger than n, whatever its sign.
+pub record Sized (n : ℕ) (a : Point) : Type 0 where
+  pub each : (i : ℕ) → natAbs (coord i a) ≤ n
+
+-- The size of a difference of two coordinates of the grid, 2^20, and of a 2 by 2 minor of such differences, 2^41.
+abbrev pub differenceSize : ℕ
+differenceSize = limit + limit
+
+abbrev pub minorSize : ℕ
+minorSize = differenceSize * differenceSize + differenceSize * differenceSize
+
+-- The three 2 by 2 minors of the rows v and w, with the signs that they have in the determinant.
+abbrev pub minors : Point → Point → Point
+minors v w = minor 1 2 v w ∷ minor 2 0 v w ∷ minor 0 1 v w ∷ []
+
+abbrev pub dot : Point → Point → ℤ
+dot u n = coord 0 u *ℤ coord 0 n +ℤ coord 1 u *ℤ coord 1 n +ℤ coord 2 u *ℤ coord 2 n
+
+-- The normal of the plane of p, q, r: the minors of [p,q,r,X], which are the same for every X (document 000).
+abbrev pub normalOf : Point → Point → Point → Point
+normalOf p q r = minors (row q p) (row r p)
+
+-- The normal of the triangle that fills a list of nine numbers.
+abbrev pub normalIn : List ℤ → Point
+normalIn numbers = normalOf (pointAt 3 0 numbers) (pointAt 3 3 numbers) (pointAt 3 6 numbers)
+
+-- A sign is -1, 0 or 1.
+abbrev pub signNumber : Sign → ℤ
+signNumber Negative = negsuc 0
+signNumber Zero = pos 0
+signNumber Positive = pos 1

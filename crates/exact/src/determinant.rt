@@ -1,0 +1,181 @@
+// The determinants of document 000 at points of the grid, exact in 64 bits. Its functions are the leaves: what is
+// off the grid was refused before one of them is called.
+ghost use mathlib.Core.Path.{_≡_};
+ghost use Prim.Native.Nat.{_+_, _≤_, _<_};
+ghost use lib.IntN.{pos};
+ghost use lib.ListN.{length, getD};
+ghost use Rattle.shape.specs.Points.{pointAt, pointsAt};
+ghost use Rattle.shape.specs.Signs.{turn, side, row, bracket, sign, digit};
+ghost use Rattle.shape.specs.SpaceTest.{level};
+ghost use Rattle.exact.specs.Grid.{limit, Ready};
+ghost use Rattle.exact.specs.Vectors.{signNumber, planar, spatial, Sized, differenceSize, minorSize, minors, dot, normalOf};
+
+// A point of the plane, or a vector.
+pub struct PlanePoint {
+    pub x: i64,
+    pub y: i64,
+}
+
+// A point of space, or a vector.
+pub struct SpacePoint {
+    pub x: i64,
+    pub y: i64,
+    pub z: i64,
+}
+
+// The number at a position of a list.
+fn number_at(numbers: &[i32], at: usize) -> i64
+    requires { ⌜ at < length (now numbers) ⌝ }
+    ensures { λ r. ⌜ r ≡ getD (now (numbers .entry)) at (pos 0) ⌝ }
+{
+    numbers[at] as i64
+}
+
+// The point that stands in a list from a position on.
+pub fn plane_point(numbers: &[i32], at: usize) -> PlanePoint
+    requires { ⌜ at + 2 ≤ length (now numbers) ⌝ }
+    ensures { λ r. ⌜ planar r ≡ pointAt 2 at (now (numbers .entry)) ⌝ }
+{
+    PlanePoint {
+        x: number_at(numbers, at),
+        y: number_at(numbers, at + 1),
+    }
+}
+
+pub fn space_point(numbers: &[i32], at: usize) -> SpacePoint
+    requires { ⌜ at + 3 ≤ length (now numbers) ⌝ }
+    ensures { λ r. ⌜ spatial r ≡ pointAt 3 at (now (numbers .entry)) ⌝ }
+{
+    SpacePoint {
+        x: number_at(numbers, at),
+        y: number_at(numbers, at + 1),
+        z: number_at(numbers, at + 2),
+    }
+}
+
+// [a,b,c], definition 2.1.
+pub fn turn_at(a: PlanePoint, b: PlanePoint, c: PlanePoint) -> i64
+    requires { ⌜ Sized limit (planar a) × Sized limit (planar b) × Sized limit (planar c) ⌝ }
+    ensures { λ r. ⌜ r ≡ turn (planar a) (planar b) (planar c) ⌝ }
+{
+    (a.x - c.x) * (b.y - c.y) - (a.y - c.y) * (b.x - c.x)
+}
+
+// [a,b,c] of the three points in a list.
+pub fn turn_of(points: &[i32]) -> i64
+    requires { ⌜ Ready 6 (now points) ⌝ }
+    ensures { λ r. ⌜ r ≡ bracket (pointsAt 2 3 0 (now (points .entry))) ⌝ }
+{
+    turn_at(
+        plane_point(points, 0),
+        plane_point(points, 2),
+        plane_point(points, 4),
+    )
+}
+
+// a - d, a row of the determinant.
+fn row_of(a: SpacePoint, d: SpacePoint) -> SpacePoint
+    requires { ⌜ Sized limit (spatial a) × Sized limit (spatial d) ⌝ }
+    ensures { λ r. ⌜ (spatial r ≡ row (spatial a) (spatial d)) × Sized differenceSize (spatial r) ⌝ }
+{
+    SpacePoint {
+        x: a.x - d.x,
+        y: a.y - d.y,
+        z: a.z - d.z,
+    }
+}
+
+// The 2 by 2 minors of two rows, as a vector.
+fn minors_of(v: SpacePoint, w: SpacePoint) -> SpacePoint
+    requires { ⌜ Sized differenceSize (spatial v) × Sized differenceSize (spatial w) ⌝ }
+    ensures { λ r. ⌜ (spatial r ≡ minors (spatial v) (spatial w)) × Sized minorSize (spatial r) ⌝ }
+{
+    SpacePoint {
+        x: v.y * w.z - v.z * w.y,
+        y: v.z * w.x - v.x * w.z,
+        z: v.x * w.y - v.y * w.x,
+    }
+}
+
+// The product of a row and the minors of the two others: with them the determinant.
+fn dot_of(u: SpacePoint, n: SpacePoint) -> i64
+    requires { ⌜ Sized differenceSize (spatial u) × Sized minorSize (spatial n) ⌝ }
+    ensures { λ r. ⌜ r ≡ dot (spatial u) (spatial n) ⌝ }
+{
+    u.x * n.x + u.y * n.y + u.z * n.z
+}
+
+// [a,b,c,d], definition 2.2: the determinant whose rows are a - d, b - d, c - d.
+pub fn side_at(a: SpacePoint, b: SpacePoint, c: SpacePoint, d: SpacePoint) -> i64
+    requires { ⌜ Sized limit (spatial a) × Sized limit (spatial b) × Sized limit (spatial c) × Sized limit (spatial d) ⌝ }
+    ensures { λ r. ⌜ r ≡ side (spatial a) (spatial b) (spatial c) (spatial d) ⌝ }
+{
+    dot_of(row_of(a, d), minors_of(row_of(b, d), row_of(c, d)))
+}
+
+// [a,b,c,d] of the four points in a list.
+pub fn side_of(points: &[i32]) -> i64
+    requires { ⌜ Ready 12 (now points) ⌝ }
+    ensures { λ r. ⌜ r ≡ bracket (pointsAt 3 4 0 (now (points .entry))) ⌝ }
+{
+    side_at(
+        space_point(points, 0),
+        space_point(points, 3),
+        space_point(points, 6),
+        space_point(points, 9),
+    )
+}
+
+pub enum Sign {
+    Negative,
+    Zero,
+    Positive,
+}
+
+// The sign of a determinant.
+pub fn sign_of(z: i64) -> Sign
+    ensures { λ r. ⌜ signNumber r ≡ sign z ⌝ }
+{
+    if z < 0 {
+        Sign::Negative
+    } else if z == 0 {
+        Sign::Zero
+    } else {
+        Sign::Positive
+    }
+}
+
+// The level that a side value tells, by its sign: 0 for -1, 1 for 0, 2 for 1. The tests in space take every sign from here.
+fn level_of(z: i64) -> u32
+    ensures { λ r. ⌜ (r ≡ digit (sign z)) × (r ≤ 2) ⌝ }
+{
+    match sign_of(z) {
+        Sign::Negative => 0,
+        Sign::Zero => 1,
+        Sign::Positive => 2,
+    }
+}
+
+// The level of d over the plane of a, b, c, by the sign of [a,b,c,d].
+pub fn level_at(a: SpacePoint, b: SpacePoint, c: SpacePoint, d: SpacePoint) -> u32
+    requires { ⌜ Sized limit (spatial a) × Sized limit (spatial b) × Sized limit (spatial c) × Sized limit (spatial d) ⌝ }
+    ensures { λ r. ⌜ (r ≡ level (spatial a) (spatial b) (spatial c) (spatial d)) × (r ≤ 2) ⌝ }
+{
+    level_of(side_at(a, b, c, d))
+}
+
+// The normal of the plane of a, b, c.
+pub fn normal_at(a: SpacePoint, b: SpacePoint, c: SpacePoint) -> SpacePoint
+    requires { ⌜ Sized limit (spatial a) × Sized limit (spatial b) × Sized limit (spatial c) ⌝ }
+    ensures { λ r. ⌜ (spatial r ≡ normalOf (spatial a) (spatial b) (spatial c)) × Sized minorSize (spatial r) ⌝ }
+{
+    minors_of(row_of(b, a), row_of(c, a))
+}
+
+// The level of d over the plane through a that has this normal.
+pub fn level_over(a: SpacePoint, normal: SpacePoint, d: SpacePoint) -> u32
+    requires { ⌜ Sized limit (spatial a) × Sized minorSize (spatial normal) × Sized limit (spatial d) ⌝ }
+    ensures { λ r. ⌜ (r ≡ digit (sign (dot (row (spatial a) (spatial d)) (spatial normal)))) × (r ≤ 2) ⌝ }
+{
+    level_of(dot_of(row_of(a, d), normal))
+}

@@ -1,0 +1,2 @@
+-- What the proofs of several functions share: triangles of space, as the tests take them. Assumes nothing.
+pub mod SpaceLaws

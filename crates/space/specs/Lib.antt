@@ -1,0 +1,2 @@
+-- The vocabulary of the tests in space.
+pub mod Spaces

@@ -1,0 +1,10 @@
+// The tests in space: two triangles, and a segment and a triangle, of the grid. The crate is the inside of the calls and offers none
+// itself: its functions have a `requires`, since what is off the grid or flat is refused before one of them is asked.
+mod meeting;
+
+pub use meeting::SpaceTriangle;
+pub use meeting::axis_of;
+pub use meeting::normal_of;
+pub use meeting::segment_meets_space;
+pub use meeting::space_triangle;
+pub use meeting::spaces_meet;
