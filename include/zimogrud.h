@@ -1,42 +1,48 @@
 /*
  * Zimogrud for C and C++: the exact signs of points, the tests whether two shapes of the plane or of space have a point in
  * common, the listing of all pairs of triangles of two lists that have one, and runs of calls on a plate, as libdoor.a has
- * them.
+ * them. Each number below that has a name stands behind it in brackets, or beside it; the names are defined before the calls.
  *
  * What goes in. Points are one list of whole numbers, point after point:
  *
- *     zg_turn      three points of the plane, six numbers
- *     zg_side      four points of space, twelve numbers
- *     zg_flat      two triangles of the plane, six numbers each
- *     zg_segment   a segment and a triangle of space, six and nine numbers
- *     zg_pair      two triangles of space, nine numbers each
- *     zg_list      two lists of triangles of space, nine numbers a triangle; each list has 0 to 1024 triangles
+ *     zg_turn      three points of the plane, ZG_TURN_LENGTH (6) numbers
+ *     zg_side      four points of space, ZG_SIDE_LENGTH (12) numbers
+ *     zg_flat      two triangles of the plane, ZG_FLAT_TRIANGLE_LENGTH (6) numbers each
+ *     zg_segment   a segment and a triangle of space, ZG_SEGMENT_LENGTH (6) and ZG_TRIANGLE_LENGTH (9) numbers
+ *     zg_pair      two triangles of space, ZG_TRIANGLE_LENGTH (9) numbers each
+ *     zg_list      two lists of triangles of space, ZG_TRIANGLE_LENGTH (9) numbers a triangle; each list has 0 to
+ *                  ZG_LIST_TRIANGLES (1024) triangles, so up to ZG_LIST_LONGEST (9216) numbers
  *     zg_plate     calls on a plate: told below, at its declaration, with what it answers
  *
- * Any numbers and any lengths may be given. What can't be served is refused.
+ * Every number should lie from -ZG_LIMIT to ZG_LIMIT (524288), ends included. Yet any numbers and any lengths may be given.
+ * What can't be served is refused.
  *
- * What comes out, of all but zg_plate. Four numbers are written to the front of `answer`, and all after the fourth stay:
+ * What comes out, of all but zg_plate. ZG_ANSWER_LENGTH (4) numbers are written to the front of `answer`, and all after the
+ * fourth stay:
  *
- *     answer[0]   the refusal number, 0 where the call serves
- *     answer[1]   the side: 0 for the first or only list, 1 for the second; 0 where the call serves
- *     answer[2]   the place, by the table below; 0 where the call serves
- *     answer[3]   the value; 0 where the call refuses
+ *     answer[ZG_AT_REFUSAL]   [0]   the refusal number, ZG_SERVED (0) where the call serves
+ *     answer[ZG_AT_SIDE]      [1]   ZG_FIRST (0) for the first or only list, ZG_SECOND (1) for the second; 0 where the call
+ *                                   serves
+ *     answer[ZG_AT_PLACE]     [2]   the place, by the table below; 0 where the call serves
+ *     answer[ZG_AT_VALUE]     [3]   the value; 0 where the call refuses
  *
- * The result is 0; or it is 1, with `answer` untouched and `buffer` too, where `answer` has room for fewer than four numbers.
- * The result says nothing of a refusal: read answer[0], and answer[3] only where that is 0.
+ * The result is ZG_TOLD (0); or it is ZG_ANSWER_TOO_SHORT (1), with `answer` untouched and `buffer` too, where `answer` has
+ * room for fewer than four numbers. The result says nothing of a refusal: read the refusal number, and the value only where
+ * that is ZG_SERVED.
  *
- * The listing. zg_list also writes to `buffer`, from buffer[start] on: two numbers for each pair of triangles that have a
- * point in common, the index of the one in the first list and of the other in the second, both from 0. The pairs rise in the
- * first index and then in the second. The numbers before buffer[start] and after the last pair stay as they are, and the whole
- * buffer does where the call refuses. `start` counts numbers, not pairs. It may be the buffer's length: then there is no room,
- * and the call serves where there is no pair.
+ * The listing. zg_list also writes to `buffer`, from buffer[start] on: ZG_PAIR_LENGTH (2) numbers for each pair of triangles
+ * that have a point in common, the index of the one in the first list and of the other in the second, both from 0. The pairs
+ * rise in the first index and then in the second. The numbers before buffer[start] and after the last pair stay as they are,
+ * and the whole buffer does where the call refuses. `start` counts numbers, not pairs. It may be the buffer's length: then
+ * there is no room, and the call serves where there is no pair.
  *
- *     refusal   given where                                                          place
- *     1         a number is below -524288 or above 524288                            its position in that list, from 0
- *     2         a triangle or a segment is flat (not zg_turn and zg_side)            its index in that list, from 0
- *     3         a list has the wrong length                                          its length
- *     4         `start` is above the buffer's length (zg_list)                       the buffer's length
- *     5         there are fewer than two numbers a pair from `start` on (zg_list)    how many pairs there are
+ *     refusal                  given where                                                 place
+ *     ZG_OFF_GRID          1   a number is below -524288 or above 524288                   its position in that list, from 0
+ *     ZG_FLAT_SHAPE        2   a triangle or a segment is flat (not zg_turn and zg_side)   its index in that list, from 0
+ *     ZG_WRONG_LENGTH      3   a list has the wrong length                                 its length
+ *     ZG_START_BEYOND_END  4   `start` is above the buffer's length (zg_list)              the buffer's length
+ *     ZG_TOO_LITTLE_ROOM   5   there are fewer than two numbers a pair from `start` on     how many pairs there are
+ *                              (zg_list)
  *
  * A triangle is flat where its corners lie on one line, and a segment where its ends are equal. In zg_list a length is wrong
  * where it is no multiple of nine or is above 9216. A position is that of the number in its whole list, of whatever triangle;
@@ -58,24 +64,112 @@
 #include <stddef.h>
 #include <stdint.h>
 
+/* ---- The names. All are of type int, and fit the arrays and the results that they are compared with. ---- */
+
+/* Coordinates, and how many numbers the lists have. */
+#define ZG_LIMIT 524288
+#define ZG_TURN_LENGTH 6
+#define ZG_SIDE_LENGTH 12
+#define ZG_FLAT_TRIANGLE_LENGTH 6
+#define ZG_SEGMENT_LENGTH 6
+#define ZG_TRIANGLE_LENGTH 9
+#define ZG_LIST_TRIANGLES 1024
+#define ZG_LIST_LONGEST 9216
+
+/* What a call gives back, but for zg_plate. */
+#define ZG_TOLD 0
+#define ZG_ANSWER_TOO_SHORT 1
+
+/* An answer: how long it is, and what stands where. An answer of zg_plate has the first three at the same places. */
+#define ZG_ANSWER_LENGTH 4
+#define ZG_AT_REFUSAL 0
+#define ZG_AT_SIDE 1
+#define ZG_AT_PLACE 2
+#define ZG_AT_VALUE 3
+
+/* Sides. */
+#define ZG_FIRST 0
+#define ZG_SECOND 1
+
+/* Refusals. zg_plate gives 1, 2 and 6 to 12, the other calls 1 to 5. */
+#define ZG_SERVED 0
+#define ZG_OFF_GRID 1
+#define ZG_FLAT_SHAPE 2
+#define ZG_WRONG_LENGTH 3
+#define ZG_START_BEYOND_END 4
+#define ZG_TOO_LITTLE_ROOM 5
+#define ZG_NO_SUCH_SLOT 6
+#define ZG_NO_SUCH_PART 7
+#define ZG_SLOT_FILLED 8
+#define ZG_SLOT_EMPTY 9
+#define ZG_PART_NOT_PLACED 10
+#define ZG_LEAVES_GRID 11
+#define ZG_NOTHING_TO_UNDO 12
+
+/* Values of zg_turn and zg_side: the signs -1, 0 and 1. */
+#define ZG_SIGN_MINUS 0
+#define ZG_SIGN_ZERO 1
+#define ZG_SIGN_PLUS 2
+
+/* Values of zg_flat, zg_segment and zg_pair. */
+#define ZG_APART 0
+#define ZG_MEETING 1
+
+/* How many numbers of the buffer a pair of zg_list takes. */
+#define ZG_PAIR_LENGTH 2
+
+/* The plate: how many slots and parts it has, and how many changes it can take back at most. */
+#define ZG_SLOTS 64
+#define ZG_PARTS 16
+#define ZG_REACH 32
+
+/* How many numbers a call on the plate takes of each of the three lists. */
+#define ZG_CALL_LENGTH 3
+#define ZG_CALL_COORDINATES 9
+#define ZG_CALL_ANSWER_LENGTH 6
+
+/* The calls on the plate. */
+#define ZG_CALL_PLACE 1
+#define ZG_CALL_LIFT 2
+#define ZG_CALL_SHIFT 3
+#define ZG_CALL_UNDO 4
+#define ZG_CALL_PARTS 5
+
+/* What stands where in the answer of a call on the plate, after the first three; and the values of ZG_CALL_PARTS. */
+#define ZG_CALL_AT_COUNT 3
+#define ZG_CALL_AT_REACH 4
+#define ZG_CALL_AT_VALUE 5
+#define ZG_NO_CLASH 0
+#define ZG_CLASH 1
+
+/* ---- The calls ---- */
+
 #ifdef __cplusplus
 extern "C" {
 #endif
 
-/* Value: how the three points turn. 0 to the right (sign -1), 1 not at all, on one line (sign 0), 2 to the left (sign 1). */
+/*
+ * Value: how the three points turn. ZG_SIGN_MINUS (0) to the right, sign -1; ZG_SIGN_ZERO (1) not at all, on one line;
+ * ZG_SIGN_PLUS (2) to the left, sign 1.
+ */
 uint32_t zg_turn(const int32_t *points, size_t points_length, uint64_t *answer, size_t answer_length);
 
-/* Value: the sign of the determinant of a - d, b - d, c - d, of the points a, b, c, d. 0 for -1, 1 for 0, 2 for 1. */
+/*
+ * Value: the sign of the determinant of a - d, b - d, c - d, of the points a, b, c, d. ZG_SIGN_MINUS (0) for -1, ZG_SIGN_ZERO
+ * (1) for 0, ZG_SIGN_PLUS (2) for 1.
+ */
 uint32_t zg_side(const int32_t *points, size_t points_length, uint64_t *answer, size_t answer_length);
 
-/* Value: whether the two triangles have a point in common. 0 apart, 1 meeting; a touch is meeting. */
+/* Value: whether the two triangles have a point in common. ZG_APART (0) or ZG_MEETING (1); a touch is meeting. */
 uint32_t zg_flat(const int32_t *a, size_t a_length, const int32_t *b, size_t b_length, uint64_t *answer, size_t answer_length);
 
-/* Value: whether the segment a and the triangle b have a point in common. 0 apart, 1 meeting; a touch is meeting. */
+/*
+ * Value: whether the segment a and the triangle b have a point in common. ZG_APART (0) or ZG_MEETING (1); a touch is meeting.
+ */
 uint32_t zg_segment(const int32_t *a, size_t a_length, const int32_t *b, size_t b_length, uint64_t *answer,
     size_t answer_length);
 
-/* Value: whether the two triangles have a point in common. 0 apart, 1 meeting; a touch is meeting. */
+/* Value: whether the two triangles have a point in common. ZG_APART (0) or ZG_MEETING (1); a touch is meeting. */
 uint32_t zg_pair(const int32_t *a, size_t a_length, const int32_t *b, size_t b_length, uint64_t *answer, size_t answer_length);
 
 /* Value: how many pairs of a triangle of a and a triangle of b have a point in common; a touch counts. `buffer` gets them. */
@@ -83,30 +177,37 @@ uint32_t zg_list(const int32_t *a, size_t a_length, const int32_t *b, size_t b_l
     size_t start, uint64_t *answer, size_t answer_length);
 
 /*
- * A run of calls on a plate that is empty at first. Call k is told by calls[3k] to calls[3k + 2], and its
- * coordinates are numbers[9k] to numbers[9k + 8]; what it doesn't take may be anything. Its six numbers are written to
- * answers[6k] and after: refusal number, side, place, the count after it, the reach after it, and the value.
+ * A run of calls on a plate that is empty at first. The plate has ZG_SLOTS (64) slots and ZG_PARTS (16) parts, both numbered
+ * from 0; its reach, the changes that it can take back, is at most ZG_REACH (32). Call k takes ZG_CALL_LENGTH (3) numbers of
+ * `calls`, from calls[3k] on, ZG_CALL_COORDINATES (9) of `numbers`, from numbers[9k] on, and ZG_CALL_ANSWER_LENGTH (6) of
+ * `answers`, from answers[6k] on. What it doesn't need of the first two may be anything.
  *
- *     calls[3k]   the call   calls[3k + 1]   calls[3k + 2]   coordinates   refused with, the first counts
- *     1           place      slot            part            the nine      6, 7, 1, 2, 8
- *     2           lift       slot                                          6, 9
- *     3           shift      part                            three: dx,    7, 10, 11
- *                                                            dy, dz
- *     4           undo                                                     12
- *     5           parts      p               q                             7 for p, 7 for q, 10 for p, 10 for q
+ *     calls[3k]            calls[3k + 1]   calls[3k + 2]   numbers[9k] on     refused with, the first counts
+ *     ZG_CALL_PLACE   1    slot            part            the triangle's 9   6, 7, 1, 2, 8
+ *     ZG_CALL_LIFT    2    slot                                               6, 9
+ *     ZG_CALL_SHIFT   3    part                            3: dx, dy, dz      7, 10, 11
+ *     ZG_CALL_UNDO    4                                                       12
+ *     ZG_CALL_PARTS   5    p               q                                  7 for p, 7 for q, 10 for p, 10 for q
  *
- *     refusal   given where                                                          place
- *     6         a slot is above 63                                                   the slot
- *     7         a part is above 15                                                   the part
- *     8         a place into a filled slot                                           the slot
- *     9         a lift of an empty slot                                              the slot
- *     10        no triangle of that part is on the plate                             the part
- *     11        a shift would take a coordinate off the grid                         the lowest such slot
- *     12        an undo at reach 0                                                   0
+ *     answers[6k + ZG_AT_REFUSAL]      [6k]       the refusal number, ZG_SERVED (0) where the call serves
+ *     answers[6k + ZG_AT_SIDE]         [6k + 1]   ZG_SECOND (1) where ZG_CALL_PARTS refuses q, otherwise ZG_FIRST (0)
+ *     answers[6k + ZG_AT_PLACE]        [6k + 2]   the place, by the tables; 0 where the call serves
+ *     answers[6k + ZG_CALL_AT_COUNT]   [6k + 3]   the count after the call
+ *     answers[6k + ZG_CALL_AT_REACH]   [6k + 4]   the reach after the call
+ *     answers[6k + ZG_CALL_AT_VALUE]   [6k + 5]   of ZG_CALL_PARTS ZG_CLASH (1) where p and q clash, ZG_NO_CLASH (0) where
+ *                                                 they don't or p is q; 0 of other calls and where the call refuses
  *
- * Value: of parts 1 where they clash and 0 where they don't, or p is q; otherwise 0. Result: how many calls were done. These
- * are all that `calls`, `numbers` and `answers` have room for, or those before the first of another kind than 1 to 5. All
- * numbers of `answers` after theirs stay as they are.
+ *     refusal                  given where                                    place
+ *     ZG_NO_SUCH_SLOT      6   a slot is above 63                             the slot
+ *     ZG_NO_SUCH_PART      7   a part is above 15                             the part
+ *     ZG_SLOT_FILLED       8   a place into a filled slot                     the slot
+ *     ZG_SLOT_EMPTY        9   a lift of an empty slot                        the slot
+ *     ZG_PART_NOT_PLACED  10   no triangle of that part is on the plate       the part
+ *     ZG_LEAVES_GRID      11   a shift would take a coordinate off the grid   the lowest such slot
+ *     ZG_NOTHING_TO_UNDO  12   an undo at reach 0                             0
+ *
+ * Result: how many calls were done. These are all that `calls`, `numbers` and `answers` have room for, or those before the
+ * first of another kind than 1 to 5. All numbers of `answers` after theirs stay as they are.
  */
 uint64_t zg_plate(const uint32_t *calls, size_t calls_length, const int32_t *numbers, size_t numbers_length, uint64_t *answers,
     size_t answers_length);

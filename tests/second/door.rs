@@ -3,7 +3,8 @@
 //!
 //! The library is x86-64 code. A program for x86-64 has it linked in; any other reaches it through
 //! a relay. Both take a batch of questions and give a batch of replies. The flag `--cfg linked`
-//! links a library for the processor at hand, to try the linked way there.
+//! links a library for the processor at hand, to try the linked way there; `--cfg relayed` asks a relay
+//! on x86-64 as well, so that the relay can run under a tool that watches memory.
 
 mod lent;
 
@@ -12,14 +13,14 @@ use crate::answers::Outcome;
 use crate::random::Random;
 use lent::{Lent, MARGIN};
 
-#[cfg(any(target_arch = "x86_64", linked))]
+#[cfg(all(any(target_arch = "x86_64", linked), not(relayed)))]
 mod linked;
-#[cfg(any(target_arch = "x86_64", linked))]
+#[cfg(all(any(target_arch = "x86_64", linked), not(relayed)))]
 pub use linked::Door;
 
-#[cfg(not(any(target_arch = "x86_64", linked)))]
+#[cfg(any(not(any(target_arch = "x86_64", linked)), relayed))]
 mod relay;
-#[cfg(not(any(target_arch = "x86_64", linked)))]
+#[cfg(any(not(any(target_arch = "x86_64", linked)), relayed))]
 pub use relay::Door;
 
 pub const ANSWER_NUMBERS: usize = 4;

@@ -1,5 +1,6 @@
 //! The second program: puts the bench rows of document 01, many random inputs and many random stories of a plate to the
-//! library under check, finds every answer by means of its own, and compares.
+//! library under check, finds every answer by means of its own, and compares. With `--text` it asks nothing, but writes
+//! pairs and their answers as text.
 //!
 //! Exit status: 0 no disagreement; 1 a disagreement, a failure of the calls, or a case never met;
 //! 2 bad arguments, or no way to reach the library.
@@ -14,6 +15,7 @@ mod plates;
 mod random;
 mod story;
 mod tally;
+mod text;
 
 use call::Call;
 use door::{Door, Question, Reply, Room, ANSWER_NUMBERS};
@@ -24,7 +26,7 @@ use std::time::{SystemTime, UNIX_EPOCH};
 use tally::plates::PlateTally;
 use tally::{Cases, Tally};
 
-const USAGE: &str = "usage: second [--pairs N] [--stories N] [--seed S] [--tiny]";
+const USAGE: &str = "usage: second [--pairs N] [--stories N] [--seed S] [--tiny] [--text NAME]";
 const DEFAULT_PAIRS: u64 = 1_000_000;
 /// From this many pairs on, a case that never came up is a fault of the inputs.
 const PAIRS_THAT_MEET_ALL_CASES: u64 = 100_000;
@@ -48,6 +50,8 @@ struct Settings {
     stories: u64,
     seed: u64,
     tiny: bool,
+    /// Where to write pairs as text, instead of comparing.
+    text: Option<String>,
 }
 
 fn main() -> ExitCode {
@@ -58,6 +62,9 @@ fn main() -> ExitCode {
             return ExitCode::from(2);
         }
     };
+    if let Some(name) = &settings.text {
+        return write_text(name, &settings);
+    }
     let door = match Door::open() {
         Ok(door) => door,
         Err(message) => {
@@ -83,19 +90,34 @@ fn main() -> ExitCode {
     }
 }
 
+fn write_text(name: &str, settings: &Settings) -> ExitCode {
+    let Settings { pairs, seed, .. } = settings;
+    match text::write_pairs(name, *pairs, *seed, any_pair(settings)) {
+        Ok(()) => {
+            say(&format!("second: --text {name} --pairs {pairs} --seed {seed}: written"));
+            ExitCode::SUCCESS
+        }
+        Err(error) => {
+            eprintln!("second: {name}.txt and {name}.words can't be written: {error}");
+            ExitCode::from(2)
+        }
+    }
+}
+
 /// A reader that stops listening must not change the exit status, so a failed write is passed over.
 fn say(line: &str) {
     let _ = writeln!(std::io::stdout(), "{line}");
 }
 
 fn read_arguments(mut arguments: impl Iterator<Item = String>) -> Result<Settings, String> {
-    let (mut pairs, mut stories, mut seed, mut tiny) = (None, None, None, false);
+    let (mut pairs, mut stories, mut seed, mut tiny, mut text) = (None, None, None, false, None);
     while let Some(name) = arguments.next() {
         match name.as_str() {
             "--pairs" => pairs = Some(read_number(&name, arguments.next())?),
             "--stories" => stories = Some(read_number(&name, arguments.next())?),
             "--seed" => seed = Some(read_number(&name, arguments.next())?),
             "--tiny" => tiny = true,
+            "--text" => text = Some(arguments.next().ok_or_else(|| format!("{name} needs a name"))?),
             _ => return Err(format!("unknown argument {name:?}")),
         }
     }
@@ -108,6 +130,7 @@ fn read_arguments(mut arguments: impl Iterator<Item = String>) -> Result<Setting
         stories: stories.unwrap_or(pairs.div_ceil(PAIRS_TO_A_STORY)),
         seed: seed.unwrap_or_else(seed_from_clock),
         tiny,
+        text,
     })
 }
 
@@ -141,18 +164,26 @@ fn plans(settings: &Settings) -> Vec<Plan> {
         return vec![
             plan(tally::FLAT, pairs, inputs::tiny_flat_pair),
             plan(tally::SEGMENT, pairs, inputs::tiny_segment),
-            plan(tally::PAIR, pairs, inputs::tiny_pair),
+            plan(tally::PAIR, pairs, any_pair(settings)),
             plan(tally::LIST, listings, inputs::tiny_listing),
         ];
     }
     vec![
         plan(tally::FLAT, pairs, inputs::any_flat_pair),
         plan(tally::SEGMENT, pairs, inputs::any_segment),
-        plan(tally::PAIR, pairs, inputs::any_pair),
+        plan(tally::PAIR, pairs, any_pair(settings)),
         plan(tally::TURN, quarter, inputs::any_turn),
         plan(tally::SIDE, quarter, inputs::any_side),
         plan(tally::LIST, listings, inputs::any_listing),
     ]
+}
+
+fn any_pair(settings: &Settings) -> fn(&mut Random) -> Call {
+    if settings.tiny {
+        inputs::tiny_pair
+    } else {
+        inputs::any_pair
+    }
 }
 
 fn compare_all(mut door: Door, settings: &Settings) -> Result<String, String> {

@@ -1,7 +1,8 @@
 /*
- * The relay: lets the second program reach libdoor.a, which is x86-64 code, from any other processor. It is an x86-64
- * program linked with libdoor.a and run under an emulator. It reads requests from standard input until its end, makes
- * the call that each one asks for, and writes the replies to standard output in the same order.
+ * The relay: lets the second program reach a libdoor.a that is not linked into it. That is how it asks from another
+ * processor, where an emulator runs the relay, and how the calls are made under a tool that watches memory. It reads
+ * requests from standard input until its end, makes the call that each one asks for, and writes the replies to standard
+ * output in the same order. relay.h says what it needs from the other part of its program.
  *
  * A request is one frame. Its reply is the same frame, of the same size, as the call left it. All numbers in it are
  * little-endian:
@@ -20,15 +21,17 @@
  *     then             the first list and then the second, signed 32-bit numbers
  *     then             four bytes of 0 where the frame's size would not be a multiple of eight without them
  *
- * The call works on the frame itself, so whatever it writes, allowed or not, shows in the reply. All whole requests
- * that have arrived are answered before more are waited for. The sender must take replies while it sends requests.
- *
- * Built without a C library, so that running it takes an emulator and nothing else.
+ * All whole requests that have arrived are answered before more are waited for. The sender must take replies while it
+ * sends requests.
  *
  * Exit status: 0 the input ended after a whole request; 1 a malformed request, or one cut short; 2 reading or writing
  * failed.
  */
+#include "relay.h"
+
 #include "zimogrud.h"
+
+#include <string.h>
 
 #define MARK 0x7a670003u
 
@@ -37,9 +40,6 @@ enum { TURN = 1, SIDE = 2, FLAT = 3, SEGMENT = 4, PAIR = 5, LIST = 6, PLATE = 7 
 enum { LONGEST_LIST = 1 << 14, LONGEST_MARGIN = 64, LONGEST_BUFFER = (1 << 21) + (1 << 14) };
 enum { LONGEST_ANSWER = 64, LONGEST_PLATE_ANSWERS = 1 << 14 };
 enum { BLOCK_BYTES = 1 << 24 };
-enum { ALL_SERVED = 0, MALFORMED = 1, NO_PIPE = 2 };
-enum { SYSTEM_READ = 0, SYSTEM_WRITE = 1, SYSTEM_EXIT = 231 };
-enum { STANDARD_INPUT = 0, STANDARD_OUTPUT = 1, INTERRUPTED = -4 };
 
 struct head {
     uint64_t mark;
@@ -55,78 +55,6 @@ struct head {
 
 /* The frames that have arrived, the first at the front. */
 static _Alignas(8) unsigned char block[BLOCK_BYTES];
-
-/* ---- What a C library would give, to the library under check as well ---- */
-
-void *memcpy(void *to, const void *from, size_t size)
-{
-    for (size_t i = 0; i < size; i++)
-        ((unsigned char *)to)[i] = ((const unsigned char *)from)[i];
-    return to;
-}
-
-void *memmove(void *to, const void *from, size_t size)
-{
-    if ((uintptr_t)to <= (uintptr_t)from)
-        return memcpy(to, from, size);
-    while (size-- > 0)
-        ((unsigned char *)to)[size] = ((const unsigned char *)from)[size];
-    return to;
-}
-
-void *memset(void *to, int byte, size_t size)
-{
-    for (size_t i = 0; i < size; i++)
-        ((unsigned char *)to)[i] = (unsigned char)byte;
-    return to;
-}
-
-int memcmp(const void *one, const void *other, size_t size)
-{
-    const unsigned char *a = one, *b = other;
-    for (size_t i = 0; i < size; i++)
-        if (a[i] != b[i])
-            return a[i] < b[i] ? -1 : 1;
-    return 0;
-}
-
-static long system_call(long number, long a, long b, long c)
-{
-    long result;
-    __asm__ volatile("syscall" : "=a"(result) : "a"(number), "D"(a), "S"(b), "d"(c) : "rcx", "r11", "memory");
-    return result;
-}
-
-static _Noreturn void end(int status)
-{
-    for (;;)
-        system_call(SYSTEM_EXIT, status, 0, 0);
-}
-
-/* Waits for input; 0 at its end. */
-static size_t read_some(unsigned char *to, size_t size)
-{
-    long got;
-    do
-        got = system_call(SYSTEM_READ, STANDARD_INPUT, (long)to, (long)size);
-    while (got == INTERRUPTED);
-    if (got < 0)
-        end(NO_PIPE);
-    return (size_t)got;
-}
-
-static void write_all(const unsigned char *from, size_t size)
-{
-    while (size > 0) {
-        long gone = system_call(SYSTEM_WRITE, STANDARD_OUTPUT, (long)from, (long)size);
-        if (gone == INTERRUPTED)
-            continue;
-        if (gone <= 0)
-            end(NO_PIPE);
-        from += gone;
-        size -= (size_t)gone;
-    }
-}
 
 /* ---- Frames ---- */
 
@@ -154,32 +82,70 @@ static size_t frame_size(const struct head *head)
     return sizeof *head + answer_bytes + (buffer_bytes + list_bytes + 7) / 8 * 8;
 }
 
-static uint64_t make_call(const struct head *head, unsigned char *frame)
+/* The lent runs of a call, each with its numbers only, without its margins. */
+struct runs {
+    uint64_t *answer;
+    uint32_t *buffer;
+    int32_t *first;
+    int32_t *second;
+};
+
+/* Where they stand in the frame. */
+static struct runs runs_of(const struct head *head, unsigned char *frame)
 {
     uint64_t *answer_room = (uint64_t *)(frame + sizeof *head);
     uint32_t *buffer_room = (uint32_t *)(answer_room + with_margins(head, head->answer_length));
-    const int32_t *first = (const int32_t *)(buffer_room + with_margins(head, head->buffer_length));
-    const int32_t *second = first + head->first_length;
-    uint64_t *answer = answer_room + head->margin;
-    uint32_t *buffer = buffer_room + head->margin;
+    int32_t *first = (int32_t *)(buffer_room + with_margins(head, head->buffer_length));
+    return (struct runs){
+        .answer = answer_room + head->margin,
+        .buffer = buffer_room + head->margin,
+        .first = first,
+        .second = first + head->first_length,
+    };
+}
+
+static uint64_t make_call(const struct head *head, const struct runs *lent)
+{
+    const int32_t *first = lent->first, *second = lent->second;
     switch (head->call) {
     case TURN:
-        return zg_turn(first, head->first_length, answer, head->answer_length);
+        return zg_turn(first, head->first_length, lent->answer, head->answer_length);
     case SIDE:
-        return zg_side(first, head->first_length, answer, head->answer_length);
+        return zg_side(first, head->first_length, lent->answer, head->answer_length);
     case FLAT:
-        return zg_flat(first, head->first_length, second, head->second_length, answer, head->answer_length);
+        return zg_flat(first, head->first_length, second, head->second_length, lent->answer, head->answer_length);
     case SEGMENT:
-        return zg_segment(first, head->first_length, second, head->second_length, answer, head->answer_length);
+        return zg_segment(first, head->first_length, second, head->second_length, lent->answer, head->answer_length);
     case PAIR:
-        return zg_pair(first, head->first_length, second, head->second_length, answer, head->answer_length);
+        return zg_pair(first, head->first_length, second, head->second_length, lent->answer, head->answer_length);
     case LIST:
-        return zg_list(first, head->first_length, second, head->second_length, buffer, head->buffer_length, head->start,
-            answer, head->answer_length);
+        return zg_list(first, head->first_length, second, head->second_length, lent->buffer, head->buffer_length,
+            head->start, lent->answer, head->answer_length);
     default:
-        return zg_plate((const uint32_t *)first, head->first_length, second, head->second_length, answer,
+        return zg_plate((const uint32_t *)first, head->first_length, second, head->second_length, lent->answer,
             head->answer_length);
     }
+}
+
+/* Lends each run, the lists too, so that a forbidden write to them shows in the reply. */
+static uint64_t call_with_loans(const struct head *head, const struct runs *own)
+{
+    size_t answer_bytes = sizeof *own->answer * head->answer_length;
+    size_t buffer_bytes = sizeof *own->buffer * head->buffer_length;
+    size_t first_bytes = sizeof *own->first * head->first_length;
+    size_t second_bytes = sizeof *own->second * head->second_length;
+    struct runs lent = {
+        .answer = lend(ANSWER_LOAN, own->answer, answer_bytes),
+        .buffer = lend(BUFFER_LOAN, own->buffer, buffer_bytes),
+        .first = lend(FIRST_LOAN, own->first, first_bytes),
+        .second = lend(SECOND_LOAN, own->second, second_bytes),
+    };
+    uint64_t result = make_call(head, &lent);
+    take_back(lent.answer, own->answer, answer_bytes);
+    take_back(lent.buffer, own->buffer, buffer_bytes);
+    take_back(lent.first, own->first, first_bytes);
+    take_back(lent.second, own->second, second_bytes);
+    return result;
 }
 
 /* Turns the request at the front into its reply. Gives the frame's size, or 0 where it has not arrived whole. */
@@ -194,12 +160,13 @@ static size_t serve(unsigned char *frame, size_t arrived)
     size_t size = frame_size(&head);
     if (arrived < size)
         return 0;
-    uint64_t result = make_call(&head, frame);
+    struct runs own = runs_of(&head, frame);
+    uint64_t result = call_with_loans(&head, &own);
     memcpy(frame + offsetof(struct head, result), &result, sizeof result);
     return size;
 }
 
-_Noreturn void relay(void)
+void relay(void)
 {
     size_t arrived = 0;
     for (;;) {
@@ -218,10 +185,3 @@ _Noreturn void relay(void)
         arrived -= served;
     }
 }
-
-/* Where the program starts: a call of relay with the stack as the C calling convention wants it. */
-__asm__(".globl _start\n"
-        "_start:\n"
-        "    xorl %ebp, %ebp\n"
-        "    andq $-16, %rsp\n"
-        "    call relay\n");

@@ -1,4 +1,4 @@
-//! The door of a library for another processor, reached through the program of relay.c: questions
+//! The door of a library in another program, reached through a relay, the program of relay.c: questions
 //! go to its standard input and replies come from its standard output.
 //!
 //! A question is one frame, and its reply is the same frame, of the same size, as the call left

@@ -1,6 +1,6 @@
-/* The whole-number types of C, for the relay: it is built without a C library and its headers. */
-#ifndef SECOND_STDINT_H
-#define SECOND_STDINT_H
+/* The whole-number types of C, for what is compiled with the kit's clang: the kit has no headers. */
+#ifndef TOOLS_STDINT_H
+#define TOOLS_STDINT_H
 
 typedef __INT8_TYPE__ int8_t;
 typedef __INT16_TYPE__ int16_t;
@@ -11,5 +11,8 @@ typedef __UINT16_TYPE__ uint16_t;
 typedef __UINT32_TYPE__ uint32_t;
 typedef __UINT64_TYPE__ uint64_t;
 typedef __UINTPTR_TYPE__ uintptr_t;
+
+#define INT32_MAX 2147483647
+#define INT32_MIN (-INT32_MAX - 1)
 
 #endif

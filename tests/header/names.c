@@ -1,0 +1,86 @@
+/*
+ * The names of include/zimogrud.h and the numbers of document 01 that they stand for, told once more: a name with another
+ * number does not compile. Compiled as C and as C++, and never run; the calls below show that names and declarations go
+ * together without a cast or a warning.
+ */
+#include "zimogrud.h"
+
+#ifndef __cplusplus
+#define static_assert _Static_assert
+#endif
+
+#define IS(name, number) static_assert((name) == (number), #name)
+
+IS(ZG_LIMIT, 524288);
+IS(ZG_TURN_LENGTH, 3 * 2);
+IS(ZG_SIDE_LENGTH, 4 * 3);
+IS(ZG_FLAT_TRIANGLE_LENGTH, 3 * 2);
+IS(ZG_SEGMENT_LENGTH, 2 * 3);
+IS(ZG_TRIANGLE_LENGTH, 3 * 3);
+IS(ZG_LIST_TRIANGLES, 1024);
+IS(ZG_LIST_LONGEST, 1024 * 9);
+IS(ZG_PAIR_LENGTH, 2);
+
+IS(ZG_TOLD, 0);
+IS(ZG_ANSWER_TOO_SHORT, 1);
+IS(ZG_ANSWER_LENGTH, 4);
+IS(ZG_AT_REFUSAL, 0);
+IS(ZG_AT_SIDE, 1);
+IS(ZG_AT_PLACE, 2);
+IS(ZG_AT_VALUE, 3);
+IS(ZG_FIRST, 0);
+IS(ZG_SECOND, 1);
+
+IS(ZG_SERVED, 0);
+IS(ZG_OFF_GRID, 1);
+IS(ZG_FLAT_SHAPE, 2);
+IS(ZG_WRONG_LENGTH, 3);
+IS(ZG_START_BEYOND_END, 4);
+IS(ZG_TOO_LITTLE_ROOM, 5);
+IS(ZG_NO_SUCH_SLOT, 6);
+IS(ZG_NO_SUCH_PART, 7);
+IS(ZG_SLOT_FILLED, 8);
+IS(ZG_SLOT_EMPTY, 9);
+IS(ZG_PART_NOT_PLACED, 10);
+IS(ZG_LEAVES_GRID, 11);
+IS(ZG_NOTHING_TO_UNDO, 12);
+
+IS(ZG_SIGN_MINUS, -1 + 1);
+IS(ZG_SIGN_ZERO, 0 + 1);
+IS(ZG_SIGN_PLUS, 1 + 1);
+IS(ZG_APART, 0);
+IS(ZG_MEETING, 1);
+
+IS(ZG_SLOTS, 64);
+IS(ZG_PARTS, 16);
+IS(ZG_REACH, 32);
+IS(ZG_CALL_LENGTH, 3);
+IS(ZG_CALL_COORDINATES, 9);
+IS(ZG_CALL_ANSWER_LENGTH, 6);
+IS(ZG_CALL_PLACE, 1);
+IS(ZG_CALL_LIFT, 2);
+IS(ZG_CALL_SHIFT, 3);
+IS(ZG_CALL_UNDO, 4);
+IS(ZG_CALL_PARTS, 5);
+IS(ZG_CALL_AT_COUNT, 3);
+IS(ZG_CALL_AT_REACH, 4);
+IS(ZG_CALL_AT_VALUE, 5);
+IS(ZG_NO_CLASH, 0);
+IS(ZG_CLASH, 1);
+
+int turns_left(const int32_t *points);
+int parts_clash(const uint32_t *calls, const int32_t *numbers);
+
+int turns_left(const int32_t *points)
+{
+    uint64_t answer[ZG_ANSWER_LENGTH];
+    return zg_turn(points, ZG_TURN_LENGTH, answer, ZG_ANSWER_LENGTH) == ZG_TOLD && answer[ZG_AT_REFUSAL] == ZG_SERVED
+        && answer[ZG_AT_VALUE] == ZG_SIGN_PLUS && points[0] >= -ZG_LIMIT;
+}
+
+int parts_clash(const uint32_t *calls, const int32_t *numbers)
+{
+    uint64_t answers[ZG_CALL_ANSWER_LENGTH];
+    return zg_plate(calls, ZG_CALL_LENGTH, numbers, ZG_CALL_COORDINATES, answers, ZG_CALL_ANSWER_LENGTH) == 1
+        && calls[0] == ZG_CALL_PARTS && answers[ZG_CALL_AT_VALUE] == ZG_CLASH;
+}

@@ -1,0 +1,13 @@
+/* The functions on bytes that are used here, for what is compiled with the kit's clang: the kit has no headers. */
+#ifndef TOOLS_STRING_H
+#define TOOLS_STRING_H
+
+#include <stddef.h>
+
+void *memcpy(void *to, const void *from, size_t size);
+void *memmove(void *to, const void *from, size_t size);
+void *memset(void *to, int byte, size_t size);
+int memcmp(const void *one, const void *other, size_t size);
+char *strchr(const char *text, int character);
+
+#endif
