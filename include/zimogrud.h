@@ -1,7 +1,8 @@
 /*
  * Zimogrud for C and C++: the exact signs of points, the tests whether two shapes of the plane or of space have a point in
  * common, the listing of all pairs of triangles of two lists that have one, and runs of calls on a plate, as libdoor.a has
- * them. Each number below that has a name stands behind it in brackets, or beside it; the names are defined before the calls.
+ * them. Where a number has a name, both are told, the number in brackets or beside the name; the names are defined before the
+ * calls.
  *
  * What goes in. Points are one list of whole numbers, point after point:
  *
