@@ -15,7 +15,7 @@ use Rattle.checks.specs.Told.{toldCheck}
 use Rattle.plate.specs.Histories.{History, Call, outcome, next, run}
 use Rattle.plate.specs.Plates.{Stands, Answered}
 use Rattle.plate.specs.declared.calls.PlateAnswer.{PlateAnswer}
-use Rattle.plate.specs.declared.plates.Plate.{Plate}
+use Rattle.keeping.specs.declared.plates.Plate.{Plate}
 use Rattle.door.specs.Numbers.{verdictCode, fourNumbers, listed}
 use Rattle.door.specs.PlateRuns.{
   Ask,

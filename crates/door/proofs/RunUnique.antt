@@ -9,9 +9,9 @@ use lib.IntN.{ℤ}
 use lib.ListN.{getD, take, drop, take-append-drop}
 use lib.Seq.{getD-take, getD-drop, drop-drop}
 use Rattle.checks.specs.Answers.{Answer, numberOf, sideOf, placeOf, withServed}
-use Rattle.plate.specs.Slots.{Clashes}
+use Rattle.slots.specs.Slots.{Clashes}
 use Rattle.plate.specs.Histories.{History, slotsOf, run}
-use Rattle.plate.proofs.Clashing.{clashes-unique}
+use Rattle.slots.proofs.Clashing.{clashes-unique}
 use Rattle.plate.proofs.Unique.{parts-rule-unique}
 use Rattle.door.specs.Numbers.{verdictCode, valueOf}
 use Rattle.door.specs.PlateRuns.{Ask, call, parts, unknown, askAt, added, callsBefore, historyBefore, Six, AskAnswered, PlateRun}

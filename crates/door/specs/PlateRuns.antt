@@ -9,12 +9,12 @@ use lib.IntN.{ℤ}
 use lib.ListN.{length, getD, take, drop}
 use Rattle.shape.specs.Points.{coord}
 use Rattle.checks.specs.Answers.{Answer, numberOf, sideOf, placeOf, withServed}
-use Rattle.plate.specs.Slots.{Clashes}
-use Rattle.plate.specs.Changes.{place, lift, shift}
+use Rattle.slots.specs.Slots.{Clashes}
+use Rattle.slots.specs.Changes.{place, lift, shift}
 use Rattle.plate.specs.Histories.{History, slotsOf, Call, change, undo, outcome, next, run}
 use Rattle.plate.specs.Plates.{Stands, Promise, PartsRule}
 use Rattle.plate.specs.declared.calls.PlateAnswer.{PlateAnswer}
-use Rattle.plate.specs.declared.plates.Plate.{Plate}
+use Rattle.keeping.specs.declared.plates.Plate.{Plate}
 use Rattle.door.specs.Numbers.{verdictCode, valueOf, fourNumbers, listed}
 use Rattle.door.specs.declared.plates.CallAnswer.{CallAnswer}
 

@@ -13,14 +13,15 @@ use lib.Seq.{drop-drop, getD-set-same}
 use Rattle.checks.specs.Answers.{Answer, served, refused, fine}
 use Rattle.checks.specs.Told.{toldCheck}
 use Rattle.checks.proofs.AnswerLaws.{never-fine}
-use Rattle.plate.specs.Slots.{Slot, free, held, isFree, Clashes}
-use Rattle.plate.specs.Changes.{Change, place, apply, replay}
+use Rattle.slots.specs.Slots.{Slot, free, held, isFree, Clashes}
+use Rattle.slots.specs.Changes.{Change, place, apply, replay}
+use Rattle.slots.specs.Arrays.{markOf, flat}
+use Rattle.keeping.specs.declared.plates.Plate.{Plate}
+use Rattle.keeping.proofs.Past.{long}
 use Rattle.plate.specs.Rules.{changeChecks}
 use Rattle.plate.specs.Histories.{History, slotsOf, Call, change, undo, made, takenBack, outcome, next, run}
-use Rattle.plate.specs.Plates.{markOf, flat, Stands, Answered, Promise, MadeBy, fresh, after}
-use Rattle.plate.specs.declared.plates.Plate.{Plate}
+use Rattle.plate.specs.Plates.{Stands, Answered, Promise, MadeBy, fresh, after}
 use Rattle.plate.specs.declared.calls.PlateAnswer.{PlateAnswer}
-use Rattle.plate.proofs.Past.{long}
 use Rattle.plate.proofs.Placing.{place-passes, slot-within}
 use Rattle.plate.proofs.Outcomes.{change-outcome}
 

@@ -6,8 +6,8 @@ use native.Mathlib.Omega.{arith}
 use lib.IntN.{ℤ}
 use lib.ListN.{length, getD, take, drop}
 use lib.Seq.{take-at, drop-at}
-use Rattle.plate.specs.Slots.{Slot, free, held}
-use Rattle.plate.specs.Plates.{numbersOf, markOf, flat}
+use Rattle.slots.specs.Slots.{Slot, free, held}
+use Rattle.slots.specs.Arrays.{numbersOf, markOf, flat}
 
 same-slot : (x y : Slot) → markOf x ≡ markOf y → numbersOf x ≡ numbersOf y → x ≡ y
 same-slot free free e f = refl

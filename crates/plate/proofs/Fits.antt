@@ -1,20 +1,22 @@
 -- What holds of every history that calls made: how far its reach goes, and that the slots after each of its changes are fit. Assumes nothing.
-use mathlib.Core.Path.{_≡_, refl, sym, subst, _∙_}
+use mathlib.Core.Path.{_≡_, refl, sym, subst}
 use mathlib.Core.List.{List, [], _∷_}
 use Prim.Native.Nat.{ℕ, zero, suc, _+_, _≤_}
 use native.Mathlib.Omega.{arith}
 use lib.IntN.{ℤ}
-use lib.ListN.{set, getD, length, drop, replicate, length-drop, length-set}
+use lib.ListN.{getD, length, drop, replicate, length-drop}
 use lib.Seq.{drop-drop, drop-nil}
 use Rattle.checks.specs.Answers.{served, refused, Check, fine, _then_}
 use Rattle.checks.proofs.AnswerLaws.{then-fine}
-use Rattle.plate.specs.Slots.{Slot, free, held}
-use Rattle.plate.specs.Changes.{Change, place, lift, shift, thrice, apply, replay}
-use Rattle.plate.specs.Rules.{lowest, leaves, partWithin, partPresent, partStays, changeChecks}
+use Rattle.slots.specs.Slots.{Slot, free, held}
+use Rattle.slots.specs.Changes.{Change, place, lift, shift, thrice, apply, replay}
+use Rattle.slots.specs.Searches.{lowest, leaves}
+use Rattle.slots.specs.Showing.{FitSlot, Fit}
+use Rattle.slots.proofs.Sliding.{part-fits}
+use Rattle.slots.proofs.Arrays.{set-fits}
+use Rattle.keeping.proofs.Past.{long}
+use Rattle.plate.specs.Rules.{partWithin, partPresent, partStays, changeChecks}
 use Rattle.plate.specs.Histories.{History, slotsOf, Call, change, undo, made, takenBack, outcome, next, run}
-use Rattle.plate.specs.Steps.{FitSlot, Fit}
-use Rattle.plate.proofs.Past.{long}
-use Rattle.plate.proofs.Sliding.{part-fits}
 use Rattle.plate.proofs.Placing.{not-above, place-passes, placed-passed}
 
 pub record Sound (h : History) : Type 0 where
@@ -23,16 +25,6 @@ pub record Sound (h : History) : Type 0 where
   pub fits : (n : ℕ) → Fit (replay (drop n (h .past)))
 
 -- ---- changes that the checks pass
-pub set-fits : (S : List Slot) (s : ℕ) (x : Slot) → Fit S → FitSlot x → Fit (set S s x)
-set-fits S s x fit f = record { long = length-set S s x ∙ fit .long; each = λ i. at S s i (fit .each i) }
-  where
-    at : (S : List Slot) (s i : ℕ) → FitSlot (getD S i free) → FitSlot (getD (set S s x) i free)
-    at [] s i g = g
-    at (y ∷ S) zero zero g = f
-    at (y ∷ S) zero (suc i) g = g
-    at (y ∷ S) (suc s) zero g = g
-    at (y ∷ S) (suc s) (suc i) g = at S s i g
-
 shift-stays : (S : List Slot) (q : ℕ) (dx dy dz : ℤ) → changeChecks S (shift q dx dy dz) ≡ fine →
     length S ≤ lowest (leaves q (thrice dx dy dz)) S
 unfolding changeChecks

@@ -11,18 +11,22 @@ use lib.IntN.{ℤ}
 use lib.ListN.{getD, length, take, drop}
 use Rattle.checks.specs.Answers.{Answer, served, refused, Check, fine, _then_}
 use Rattle.checks.specs.Told.{toldCheck}
-use Rattle.plate.specs.Slots.{Slot, free, held, isFree, isOf, Clashes}
-use Rattle.plate.specs.Changes.{Change, place, lift, shift, thrice, apply, replay}
-use Rattle.plate.specs.Rules.{some, lowest, leaves, slotFree, changeChecks}
+use Rattle.slots.specs.Slots.{Slot, free, held, isFree, isOf, Clashes}
+use Rattle.slots.specs.Changes.{Change, place, lift, shift, thrice, apply, replay}
+use Rattle.slots.specs.Searches.{some, lowest, leaves}
+use Rattle.slots.specs.Arrays.{markOf}
+use Rattle.slots.specs.Counting.{hasMark}
+use Rattle.slots.specs.Showing.{Fit}
+use Rattle.slots.proofs.Clashing.{clashes-true, clashes-only, some-mark}
+use Rattle.keeping.specs.Journal.{blank, entryOf, journalOf}
+use Rattle.keeping.specs.Steps.{Shows, Restored}
+use Rattle.keeping.specs.declared.plates.Plate.{Plate}
+use Rattle.keeping.specs.declared.journal.Entry.{Entry}
+use Rattle.keeping.proofs.Past.{unread, journal-push, journal-top, journal-pop}
+use Rattle.plate.specs.Rules.{slotFree, changeChecks}
 use Rattle.plate.specs.Histories.{History, slotsOf, Call, change, undo, made, takenBack, outcome, run}
-use Rattle.plate.specs.Plates.{markOf, blank, entryOf, journalOf, Stands, Answered}
-use Rattle.plate.specs.Counting.{hasMark}
-use Rattle.plate.specs.Steps.{Fit, Shows, Restored}
-use Rattle.plate.specs.declared.plates.Plate.{Plate}
+use Rattle.plate.specs.Plates.{Stands, Answered}
 use Rattle.plate.specs.declared.calls.PlateAnswer.{PlateAnswer}
-use Rattle.plate.specs.declared.journal.Entry.{Entry}
-use Rattle.plate.proofs.Clashing.{clashes-true, clashes-only, some-mark}
-use Rattle.plate.proofs.Past.{unread, journal-push, journal-top, journal-pop}
 use Rattle.plate.proofs.Placing.{placing, place-order}
 use Rattle.plate.proofs.Fits.{Sound, sound}
 

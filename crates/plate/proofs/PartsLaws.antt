@@ -9,14 +9,15 @@ use borrow.Author.Tests.{lt-ltb, le-ltb}
 use Rattle.shape.specs.Verdicts.{Says}
 use Rattle.checks.specs.Answers.{Answer, served, refused, Check, fine, _then_}
 use Rattle.checks.proofs.AnswerLaws.{never-fine}
-use Rattle.plate.specs.Slots.{Slot, PartsClash}
-use Rattle.plate.specs.Rules.{some, partsChecks}
+use Rattle.slots.specs.Slots.{Slot, PartsClash}
+use Rattle.slots.specs.Searches.{some}
+use Rattle.slots.specs.Counting.{hasMark, marksStrike}
+use Rattle.slots.specs.Showing.{Shown}
+use Rattle.slots.proofs.Clashing.{parts-says}
+use Rattle.keeping.specs.declared.plates.Plate.{Plate}
+use Rattle.plate.specs.Rules.{partsChecks}
 use Rattle.plate.specs.Histories.{slotsOf, run}
 use Rattle.plate.specs.Plates.{PartsRule, PartsPromise}
-use Rattle.plate.specs.Counting.{hasMark, marksStrike}
-use Rattle.plate.specs.Steps.{Shown}
-use Rattle.plate.specs.declared.plates.Plate.{Plate}
-use Rattle.plate.proofs.Clashing.{parts-says}
 use Rattle.plate.proofs.Outcomes.{shown, present}
 
 -- ---- the rule of two parts

@@ -14,8 +14,8 @@ use Rattle.checks.specs.Rules.{rightLength, shapeChecks}
 use Rattle.checks.proofs.AnswerLaws.{never-fine, then-assoc, then-fine}
 use Rattle.checks.proofs.CheckLaws.{fine-long}
 use Rattle.checks.proofs.Passing.{passed}
-use Rattle.plate.specs.Slots.{Slot}
-use Rattle.plate.specs.Changes.{place}
+use Rattle.slots.specs.Slots.{Slot}
+use Rattle.slots.specs.Changes.{place}
 use Rattle.plate.specs.Rules.{slotWithin, partWithin, slotFree, changeChecks}
 
 -- A check that refuses a number above n refuses nothing: the number is not above n.

@@ -18,14 +18,16 @@ use Rattle.checks.specs.Rules.{rightLength, notFlat, shapeChecks}
 use Rattle.checks.specs.Told.{toldCheck}
 use Rattle.checks.proofs.GridLaws.{SomeOff, Lowest, all-on, none-off, one-off, lowest as lowest-off, lowest-some}
 use Rattle.checks.proofs.CheckLaws.{from-start, LengthCase, right, wrong, length-case, GridCase, all, not-all, grid-case, OnGrid, FlatCase, flat, not-flat, flat-case, long-fine, not-long-refused, on-fine, off-refused, not-flat-fine, flat-refused}
-use Rattle.plate.specs.Slots.{Slot, free, held, triangle, isOf}
-use Rattle.plate.specs.Changes.{Change, place, lift, shift, thrice}
-use Rattle.plate.specs.Rules.{some, lowest, leaves, slotFree, changeChecks, partsChecks}
+use Rattle.slots.specs.Slots.{Slot, free, held, triangle, isOf}
+use Rattle.slots.specs.Changes.{Change, place, lift, shift, thrice}
+use Rattle.slots.specs.Searches.{some, lowest, leaves}
+use Rattle.slots.specs.Arrays.{markOf}
+use Rattle.slots.proofs.Searching.{some-at, some-found, lowest-at, lowest-none, below-lowest}
+use Rattle.keeping.specs.declared.plates.Plate.{Plate}
+use Rattle.plate.specs.Rules.{slotFree, changeChecks, partsChecks}
 use Rattle.plate.specs.Histories.{History, slotsOf, Call, change, undo, made, takenBack, outcome, run}
-use Rattle.plate.specs.Plates.{markOf, Answered, Promise, PartsPromise, MadeBy}
-use Rattle.plate.specs.declared.plates.Plate.{Plate}
+use Rattle.plate.specs.Plates.{Answered, Promise, PartsPromise, MadeBy}
 use Rattle.plate.specs.declared.calls.PlateAnswer.{PlateAnswer}
-use Rattle.plate.proofs.Searching.{some-at, some-found, lowest-at, lowest-none, below-lowest}
 use Rattle.plate.proofs.Placing.{placing, place-order}
 use Rattle.plate.proofs.Outcomes.{place-8, place-fine, lift-6, lift-9, lift-fine, shift-7, shift-10, shift-11, shift-fine}
 use Rattle.plate.proofs.Demand.{demand-3, undo-refused}

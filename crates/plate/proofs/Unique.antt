@@ -10,13 +10,13 @@ use Rattle.checks.specs.Answers.{Answer, served, refused, Check, fine, _then_}
 use Rattle.checks.specs.Told.{toldCheck}
 use Rattle.checks.specs.declared.grid.Checked.{Checked}
 use Rattle.checks.specs.declared.grid.Checked.the-variants.{Fine, Refused as CheckRefused}
-use Rattle.plate.specs.Slots.{Slot}
+use Rattle.slots.specs.Slots.{Slot}
+use Rattle.slots.proofs.Clashing.{clashes-unique}
+use Rattle.keeping.specs.declared.plates.Plate.{Plate}
 use Rattle.plate.specs.Rules.{partsChecks}
 use Rattle.plate.specs.Histories.{History, Call, outcome, run}
 use Rattle.plate.specs.Plates.{Stands, Answered, Promise, CountPromise, PartsRule, PartsPromise, MadeBy}
-use Rattle.plate.specs.declared.plates.Plate.{Plate}
 use Rattle.plate.specs.declared.calls.PlateAnswer.{PlateAnswer}
-use Rattle.plate.proofs.Clashing.{clashes-unique}
 use Rattle.plate.proofs.Demand.{demand-3}
 
 -- One plate stands for a history.

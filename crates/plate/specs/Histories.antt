@@ -3,8 +3,8 @@ use mathlib.Core.List.{List, [], _∷_}
 use Prim.Native.Nat.{ℕ, zero, suc, min}
 use lib.ListN.{drop}
 use Rattle.checks.specs.Answers.{Answer, served, refused, _then_}
-use Rattle.plate.specs.Slots.{Slot}
-use Rattle.plate.specs.Changes.{Change, replay}
+use Rattle.slots.specs.Slots.{Slot}
+use Rattle.slots.specs.Changes.{Change, replay}
 use Rattle.plate.specs.Rules.{changeChecks}
 
 -- The changes that stand, the latest first, and the reach.

@@ -1,9 +1,6 @@
--- What the plate is, and what its calls promise. Read Slots, Changes, Rules, Histories and Plates, in this order; Counting and Steps are for
--- the functions inside, and no public promise speaks of them.
-pub mod Slots
-pub mod Changes
+-- What the plate is, and what its calls promise. Read Slots and Changes of crate `slots`, then Rules, Histories and Plates here, in this
+-- order. Rules takes its words from Searches of `slots`; Plates takes how slots stand in arrays from Arrays there, and what the journal keeps
+-- from Journal of crate `keeping`.
 pub mod Rules
 pub mod Histories
 pub mod Plates
-pub mod Counting
-pub mod Steps

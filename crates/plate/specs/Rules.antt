@@ -1,32 +1,15 @@
 -- When a call on a plate is refused: document 01's table, and its order of reasons.
-use mathlib.Core.Bool.{Bool, true, false, not, cond}
-use mathlib.Core.List.{List, [], _∷_}
-use Prim.Native.Nat.{ℕ, suc}
-use lib.Dec.{eqb, ltb}
+use mathlib.Core.Bool.{cond}
+use mathlib.Core.List.{List}
+use Prim.Native.Nat.{ℕ}
+use lib.Dec.{ltb}
 use lib.IntN.{ℤ}
 use lib.ListN.{length, getD}
-use Rattle.shape.specs.Points.{moved}
 use Rattle.checks.specs.Answers.{refused, Check, fine, _then_}
-use Rattle.checks.specs.Grid.{allOn}
 use Rattle.checks.specs.Rules.{rightLength, shapeChecks}
-use Rattle.plate.specs.Slots.{Slot, free, held, isFree, isOf}
-use Rattle.plate.specs.Changes.{Change, place, lift, shift, thrice}
-
--- ---- words of the table
--- Whether some element passes the test.
-abbrev pub some : {A : Type 0} → (A → Bool) → List A → Bool
-some test [] = false
-some test (x ∷ xs) = cond (test x) true (some test xs)
-
--- The lowest index whose element passes the test, or the length where none does.
-abbrev pub lowest : {A : Type 0} → (A → Bool) → List A → ℕ
-lowest test [] = 0
-lowest test (x ∷ xs) = cond (test x) 0 (suc (lowest test xs))
-
--- Whether a slot is of part q and its triangle, moved by these steps, would have a coordinate off the grid.
-abbrev pub leaves : ℕ → List ℤ → Slot → Bool
-leaves q by free = false
-leaves q by (held p numbers) = cond (eqb p q) (not (allOn (moved by numbers))) false
+use Rattle.slots.specs.Slots.{Slot, free, isFree, isOf}
+use Rattle.slots.specs.Changes.{Change, place, lift, shift, thrice}
+use Rattle.slots.specs.Searches.{some, lowest, leaves}
 
 -- ---- the reasons
 -- Reason 6: slot above 63.

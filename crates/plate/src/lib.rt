@@ -6,11 +6,7 @@
 // case, and proofs/Unique.antt that no second answer meets a promise.
 // On any other value of the struct a call is safe and ends.
 mod calls;
-mod counting;
-mod journal;
-mod plates;
 mod questions;
-mod slots;
 
 pub use calls::PlateAnswer;
 pub use calls::empty;
@@ -18,7 +14,7 @@ pub use calls::lift;
 pub use calls::place;
 pub use calls::shift;
 pub use calls::undo;
-pub use plates::Plate;
+pub use keeping::Plate;
 pub use questions::count;
 pub use questions::parts;
 pub use questions::reach;

@@ -1,9 +1,9 @@
 // The questions: count, reach and parts. They leave the plate as it is.
-use crate::counting::has_mark;
-use crate::counting::marks_strike;
-use crate::plates::Plate;
 use checks::Refusal;
+use keeping::Plate;
 use predicate::VerdictAnswer;
+use slots::has_mark;
+use slots::marks_strike;
 ghost use mathlib.Core.Path.{_≡_};
 ghost use Rattle.predicate.specs.Told.{toldVerdict};
 ghost use Rattle.checks.specs.Answers.{refused, served};

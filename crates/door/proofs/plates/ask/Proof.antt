@@ -8,7 +8,7 @@ use lib.ListN.{getD}
 use mir.Syntax.{w32}
 use mir.Val.{SFits}
 use mir.Facts.{toZ-ofZ}
-use Rattle.plate.specs.Changes.{shift}
+use Rattle.slots.specs.Changes.{shift}
 use Rattle.plate.specs.Histories.{Call, change}
 use Rattle.plate.specs.Plates.{Promise}
 use Rattle.door.proofs.plates.ask.Statement.{statement}

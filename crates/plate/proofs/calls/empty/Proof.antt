@@ -2,11 +2,11 @@
 use mathlib.Core.Path.{refl, sym, _∙_}
 use borrow.Author.Needs.{needs}
 use lib.ListN.{replicate}
-use Rattle.plate.specs.Changes.{replay}
+use Rattle.slots.specs.Changes.{replay}
+use Rattle.slots.specs.Arrays.{flat}
+use Rattle.slots.proofs.Clashing.{none-clash}
+use Rattle.keeping.proofs.Past.{blanks}
 use Rattle.plate.specs.Histories.{run}
-use Rattle.plate.specs.Plates.{flat}
-use Rattle.plate.proofs.Clashing.{none-clash}
-use Rattle.plate.proofs.Past.{blanks}
 use Rattle.plate.proofs.calls.empty.Statement.{statement}
 use Rattle.plate.proofs.calls.empty.Tie as tie
 

@@ -1,10 +1,10 @@
 -- `plate::calls::lift` meets its contract: it is refused by 6, then by 9, and else the slot is emptied. Assumes nothing.
 use mathlib.Core.Path.{refl, sym, _∙_}
 use borrow.Author.Needs.{needs}
-use Rattle.plate.specs.Slots.{free}
-use Rattle.plate.specs.Changes.{apply}
+use Rattle.slots.specs.Slots.{free}
+use Rattle.slots.specs.Changes.{apply}
+use Rattle.slots.proofs.Arrays.{mark-is}
 use Rattle.plate.specs.Histories.{run}
-use Rattle.plate.proofs.Arrays.{mark-is}
 use Rattle.plate.proofs.Outcomes.{shown, change-refused, change-made, lift-6, lift-9, lift-fine}
 use Rattle.plate.proofs.calls.lift.Statement.{statement}
 use Rattle.plate.proofs.calls.lift.Tie as tie

@@ -12,11 +12,11 @@ use Rattle.exact.specs.Grid.{Passed}
 use Rattle.checks.specs.Answers.{fine}
 use Rattle.checks.specs.Told.{toldCheck}
 use Rattle.checks.proofs.AnswerLaws.{stopped}
-use Rattle.plate.specs.Slots.{held}
-use Rattle.plate.specs.Changes.{apply}
+use Rattle.slots.specs.Slots.{held}
+use Rattle.slots.specs.Changes.{apply}
+use Rattle.slots.proofs.Arrays.{mark-is}
 use Rattle.plate.specs.Histories.{run}
 use Rattle.plate.proofs.Placing.{placing, place-order, slot-within, part-within, nine-long, placed-passed}
-use Rattle.plate.proofs.Arrays.{mark-is}
 use Rattle.plate.proofs.Outcomes.{shown, change-refused, change-made, place-8, place-fine}
 use Rattle.plate.proofs.calls.place.Statement.{statement}
 use Rattle.plate.proofs.calls.place.Tie as tie

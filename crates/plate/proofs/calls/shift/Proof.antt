@@ -13,13 +13,13 @@ use mir.Syntax.{w32}
 use mir.Val.{toZ, ofZ}
 use mir.Facts.{toZ-ofZ}
 use Rattle.checks.specs.Answers.{refused}
-use Rattle.plate.specs.Slots.{isOf}
-use Rattle.plate.specs.Changes.{thrice, apply}
-use Rattle.plate.specs.Rules.{some, lowest, leaves}
+use Rattle.slots.specs.Slots.{isOf}
+use Rattle.slots.specs.Changes.{thrice, apply}
+use Rattle.slots.specs.Searches.{some, lowest, leaves}
+use Rattle.slots.proofs.Sliding.{part-fits}
+use Rattle.keeping.specs.Steps.{Slid}
 use Rattle.plate.specs.Histories.{slotsOf, Call, run}
 use Rattle.plate.specs.Plates.{Stands}
-use Rattle.plate.specs.Steps.{Slid}
-use Rattle.plate.proofs.Sliding.{part-fits}
 use Rattle.plate.proofs.Outcomes.{shown, present, change-refused, change-made, shift-7, shift-10, shift-11, shift-fine}
 use Rattle.plate.proofs.calls.shift.Statement.{statement}
 use Rattle.plate.proofs.calls.shift.Tie as tie

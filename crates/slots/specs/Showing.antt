@@ -1,0 +1,46 @@
+-- What the functions on the arrays take for granted and promise: slots as the arrays show them, and slots moved there.
+use mathlib.Core.Path.{_≡_}
+use mathlib.Core.Bool.{true}
+use mathlib.Core.List.{List, map}
+use Prim.Native.Nat.{ℕ, suc, _*_}
+use lib.IntN.{ℤ}
+use lib.ListN.{getD, length, set, take, drop}
+use Rattle.exact.specs.Grid.{Passed}
+use Rattle.checks.specs.Grid.{allOn}
+use Rattle.slots.specs.Slots.{Slot, free, held}
+use Rattle.slots.specs.Changes.{shifted}
+use Rattle.slots.specs.Arrays.{markOf, flat}
+
+-- A slot as accepted changes leave it: empty, or a triangle that passed its checks.
+abbrev pub FitSlot : Slot → Type 0
+FitSlot free = Unit {0}
+FitSlot (held p numbers) = Passed 3 3 numbers
+
+-- 64 such slots. (Past the end stands an empty one.)
+pub record Fit (S : List Slot) : Type 0 where
+  pub long : length S ≡ 64
+  pub each : (i : ℕ) → FitSlot (getD S i free)
+
+-- The nine numbers at slot i of the coordinates.
+abbrev pub nineAt : ℕ → List ℤ → List ℤ
+nineAt i coords = take 9 (drop (9 * i) coords)
+
+-- Arrays of the right lengths, with all coordinates on the grid: what the tests may take for granted on any plate.
+pub record Sized (coords : List ℤ) (marks : List ℕ) : Type 0 where
+  pub coords-long : length coords ≡ 576
+  pub on : allOn coords ≡ true
+  pub marks-long : length marks ≡ 64
+
+-- The arrays show these slots.
+pub record Shown (S : List Slot) (coords : List ℤ) (parts : List ℕ) : Type 0 where
+  pub fit : Fit S
+  pub coords-are : coords ≡ flat S
+  pub parts-are : parts ≡ map markOf S
+
+-- A slot moved in the coordinates, if it has the mark.
+pub record SlotMoved (coords : List ℤ) (parts : List ℕ) (i mark : ℕ) (by : List ℤ) (r : List ℤ) : Type 0 where
+  pub is : (S : List Slot) (q : ℕ) → Shown S coords parts → mark ≡ suc q → FitSlot (shifted q by (getD S i free)) → r ≡ flat (set S i (shifted q by (getD S i free)))
+
+-- A part moved in the coordinates. Where a slot would leave the grid nothing is said.
+pub record PartMoved (coords : List ℤ) (parts : List ℕ) (mark : ℕ) (by : List ℤ) (r : List ℤ) : Type 0 where
+  pub is : {S : List Slot} (q : ℕ) → Shown S coords parts → mark ≡ suc q → Fit (map (shifted q by) S) → r ≡ flat (map (shifted q by) S)
