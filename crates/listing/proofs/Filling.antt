@@ -7,7 +7,7 @@ use native.Mathlib.Omega.{arith}
 use borrow.Rule.Slice.PartMut.{putMid}
 use lib.ListN.{length, take, drop, length-append, length-drop, take-append-drop, drop-of-length-le}
 use lib.Seq.{take-all, take-at, drop-at, drop-drop, length-take-le}
-use Rattle.listing.specs.Words.{Wrote}
+use Rattle.listing.specs.Writing.{Wrote}
 
 -- Of all the numbers that are to be written, those before `at` stand in the buffer, and the rest is still to come.
 pub record Filling (all before rest out : List ℕ) (at : ℕ) : Type 0 where

@@ -11,13 +11,15 @@ use Rattle.checks.specs.Answers.{Answer, served, refused, Check, fine, _then_, 
 use Rattle.checks.specs.Told.{toldRefusal}
 use Rattle.checks.specs.declared.answer.Refusal.{Refusal}
 use Rattle.checks.proofs.AnswerLaws.{served-not-refused}
+use Rattle.boxes.specs.Triangles.{triangles}
+use Rattle.deciding.specs.Words.{onesBelow, VerdictsBelow}
 use Rattle.listing.specs.Pairs.{Pair, gathered, pairsOf, twoEach}
-use Rattle.listing.specs.Rules.{triangles, inputChecks, roomFor, outcome, afterwards, ListRule}
-use Rattle.listing.specs.Words.{toldBy, onesBelow, VerdictsBelow, Wrote, listed, Found}
+use Rattle.listing.specs.Rules.{inputChecks, roomFor, outcome, afterwards, ListRule}
+use Rattle.listing.specs.Writing.{toldBy, Wrote, listed, Found}
 use Rattle.listing.proofs.Filling.{free-part, put-back}
 use Rattle.listing.proofs.Gathering.{length-two-each}
 use Rattle.listing.proofs.ListChecks.{room-fine, no-room-refused}
-use Rattle.listing.proofs.WordLaws.{length-told, kept, all-told, kept-right}
+use Rattle.listing.proofs.Telling.{length-told, kept, all-told, kept-right}
 
 -- ---- the pairs that n words tell, as many as were found, and the buffer
 module _ (m : ℕ) (words : List ℕ) (n : ℕ) (buffer : List ℕ) (start found : ℕ) (e : found ≡ onesBelow m words n) where

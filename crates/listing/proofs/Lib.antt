@@ -1,7 +1,6 @@
 -- What the proofs of several functions share:
---   BoxLaws       boxes: the best of three numbers, and boxes that are apart
 --   Gathering     lists gathered from pieces, and two numbers a pair
---   WordLaws      what the words of verdicts tell
+--   Telling       what the words of verdicts tell
 --   Filling       a buffer that is filled from the front
 --   ListChecks    what each check of a listing finds, by its cases
 --   Sound         lists that the checks passed
@@ -10,9 +9,8 @@
 --   Order         the pairs are exactly those that have a point in common, each once, rising
 --   Table         each reason exactly in its case
 --   Unique        no second answer and no second buffer
-pub mod BoxLaws
 pub mod Gathering
-pub mod WordLaws
+pub mod Telling
 pub mod Filling
 pub mod ListChecks
 pub mod Sound

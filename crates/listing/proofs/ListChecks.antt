@@ -18,7 +18,8 @@ use Rattle.checks.specs.Rules.{notFlat, shapeChecks}
 use Rattle.checks.proofs.AnswerLaws.{never-fine}
 use Rattle.checks.proofs.GridLaws.{Lowest}
 use Rattle.checks.proofs.CheckLaws.{OnGrid, GridCase, all, not-all, grid-case, FlatCase, flat, not-flat, flat-case, on-fine, off-refused, not-flat-fine, flat-refused}
-use Rattle.listing.specs.Rules.{triangles, nine, startWithin, listLength, checksBelow, eachTriangle, roomFor}
+use Rattle.boxes.specs.Triangles.{triangles, nine}
+use Rattle.listing.specs.Rules.{startWithin, listLength, checksBelow, eachTriangle, roomFor}
 
 -- A number is at most another, or above it.
 pub at-most-or-above : (x y : ℕ) → (x ≤ y) ⊎ (y < x)

@@ -15,8 +15,9 @@ use Rattle.shape.proofs.VerdictLaws.{says-yes, says-fixed}
 use Rattle.kernel.specs.Meeting.{Judges}
 use Rattle.checks.specs.Answers.{served, Check, fine, _then_, withServed}
 use Rattle.checks.proofs.AnswerLaws.{then-assoc, served-later, then-served, then-fine}
+use Rattle.boxes.specs.Triangles.{triangles, nine}
 use Rattle.listing.specs.Pairs.{Pair, gathered, pairIf, pairsOf, twoEach}
-use Rattle.listing.specs.Rules.{triangles, nine, startWithin, listLength, eachTriangle, inputChecks, roomFor, outcome, afterwards, ListRule}
+use Rattle.listing.specs.Rules.{startWithin, listLength, eachTriangle, inputChecks, roomFor, outcome, afterwards, ListRule}
 use Rattle.listing.proofs.ListChecks.{fine-within, fine-room}
 
 -- ---- what stands in a list

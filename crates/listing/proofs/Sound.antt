@@ -14,8 +14,9 @@ use Rattle.checks.specs.Answers.{Check, fine, _then_}
 use Rattle.checks.specs.Rules.{shapeChecks}
 use Rattle.checks.proofs.AnswerLaws.{then-fine}
 use Rattle.checks.proofs.Passing.{passed}
-use Rattle.listing.specs.Rules.{triangles, nine, startWithin, listLength, checksBelow, eachTriangle, inputChecks}
-use Rattle.listing.specs.Boxes.{Sound}
+use Rattle.boxes.specs.Triangles.{triangles, nine}
+use Rattle.boxes.specs.Boxes.{Sound}
+use Rattle.listing.specs.Rules.{startWithin, listLength, checksBelow, eachTriangle, inputChecks}
 use Rattle.listing.proofs.ListChecks.{fine-within, fine-right-length}
 
 -- A triangle of a list has nine numbers.

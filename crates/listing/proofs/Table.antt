@@ -9,8 +9,9 @@ use native.Mathlib.Omega.{arith}
 use lib.IntN.{ℤ}
 use lib.ListN.{length}
 use Rattle.checks.specs.Answers.{Answer, served, refused, Check, fine, _then_, withServed, numberOf, sideOf, placeOf}
+use Rattle.boxes.specs.Triangles.{triangles}
 use Rattle.listing.specs.Pairs.{Pair, pairsOf}
-use Rattle.listing.specs.Rules.{triangles, listLength, eachTriangle, inputChecks, roomFor, outcome, ListRule}
+use Rattle.listing.specs.Rules.{listLength, eachTriangle, inputChecks, roomFor, outcome, ListRule}
 use Rattle.listing.proofs.Order.{MeetingPairs, meeting-fixed, verdicts-list}
 use Rattle.listing.proofs.ListChecks.{at-most-or-above, within-fine, beyond-refused, room-fine, no-room-refused, RightLength, right-length-or-not, right-length-fine, wrong-length-refused, FineList, Fault, SomeFault, fine-or-fault, list-fine, fault-refused}
 

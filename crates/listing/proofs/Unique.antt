@@ -9,8 +9,9 @@ use lib.IntN.{ℤ}
 use lib.ListN.{length}
 use Rattle.shape.proofs.VerdictLaws.{says-fixed}
 use Rattle.checks.specs.Answers.{Answer, served, refused, Check, fine, _then_, withServed}
+use Rattle.boxes.specs.Triangles.{triangles}
 use Rattle.listing.specs.Pairs.{Pair, gathered, pairIf, pairsOf}
-use Rattle.listing.specs.Rules.{triangles, inputChecks, roomFor, outcome, afterwards, ListRule}
+use Rattle.listing.specs.Rules.{inputChecks, roomFor, outcome, afterwards, ListRule}
 use Rattle.listing.specs.Told.{toldList}
 use Rattle.listing.specs.declared.answer.ListAnswer.{ListAnswer}
 use Rattle.listing.specs.declared.answer.ListAnswer.the-variants.{Listed, Refused}

@@ -1,6 +1,5 @@
--- What the contracts of the listing cite. Read Pairs, Rules and Told; Boxes and Words are the vocabulary of the leaves.
+-- What the contracts of the listing cite. Read Pairs, Rules and Told, and Triangles of crate `boxes`; Writing is the vocabulary of the leaves.
 pub mod Pairs
 pub mod Rules
 pub mod Told
-pub mod Boxes
-pub mod Words
+pub mod Writing

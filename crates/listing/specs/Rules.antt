@@ -2,23 +2,15 @@
 use mathlib.Core.Path.{_≡_}
 use mathlib.Core.Bool.{Bool, cond}
 use mathlib.Core.List.{List, _++_}
-use Prim.Native.Nat.{ℕ, zero, suc, _+_, _-_, _*_, _/_, _%_, _<_}
+use Prim.Native.Nat.{ℕ, zero, suc, _+_, _-_, _*_, _%_, _<_}
 use lib.Dec.{eqb, leb}
 use lib.IntN.{ℤ}
 use lib.ListN.{length, take, drop}
 use Rattle.kernel.specs.Meeting.{Judges}
 use Rattle.checks.specs.Answers.{Answer, served, refused, Check, fine, _then_, withServed}
 use Rattle.checks.specs.Rules.{shapeChecks}
+use Rattle.boxes.specs.Triangles.{triangles, nine}
 use Rattle.listing.specs.Pairs.{Pair, pairsOf, twoEach}
-
--- ---- a list of triangles, nine numbers each
--- How many triangles a list holds.
-abbrev pub triangles : List ℤ → ℕ
-triangles numbers = length numbers / 9
-
--- The nine numbers of the triangle with index i.
-abbrev pub nine : ℕ → List ℤ → List ℤ
-nine i numbers = take 9 (drop (9 * i) numbers)
 
 -- ---- the reasons for saying no
 -- Reason 4: a start beyond the end of a buffer of so many numbers. The place is the buffer's length.

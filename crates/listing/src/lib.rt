@@ -5,8 +5,6 @@
 // stood. specs/Rules.antt gives the answer and the buffer afterwards for every input, and proofs/Unique.antt shows that no second answer and no
 // second buffer meet the contract.
 mod answer;
-mod boxes;
-mod deciding;
 mod input;
 mod pairs;
 mod writing;

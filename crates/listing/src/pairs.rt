@@ -1,17 +1,18 @@
 // The public call: the input is checked, the pairs are decided, and what there is room for is written.
 use crate::answer::ListAnswer;
-use crate::deciding::decide_lists;
 use crate::input::input_checked;
 use crate::writing::put_pairs;
 use checks::Checked;
 use checks::Refusal;
+use deciding::decide_lists;
 ghost use mathlib.Core.Path.{_≡_};
 ghost use Prim.Native.Nat.{_*_, _≤_};
 ghost use lib.ListN.{length};
 ghost use Rattle.checks.specs.Answers.{fine};
+ghost use Rattle.deciding.specs.Words.{onesBelow};
 ghost use Rattle.listing.specs.Rules.{inputChecks, ListRule};
 ghost use Rattle.listing.specs.Told.{toldList};
-ghost use Rattle.listing.specs.Words.{Small, onesBelow, Found};
+ghost use Rattle.listing.specs.Writing.{Small, Found};
 
 // Writes the pairs that the words tell, or gives refusal 5 where there is too little room for them.
 fn list_found(

@@ -1,9 +1,10 @@
 // The pair writer: the pairs that the words of verdicts tell, from the front of a buffer on.
-use crate::deciding::span_of;
+use deciding::span_of;
 ghost use Prim.Native.Nat.{_*_, _^_, _≤_, _<_};
 ghost use lib.ListN.{length};
+ghost use Rattle.deciding.specs.Words.{bit};
 ghost use Rattle.listing.specs.Pairs.{gathered, pairIf, twoEach};
-ghost use Rattle.listing.specs.Words.{bit, wordPairs, toldBy, Small, Wrote};
+ghost use Rattle.listing.specs.Writing.{wordPairs, toldBy, Small, Wrote};
 
 // The pair (i, j), where the lowest bit is set. Gives how many numbers it wrote.
 fn put_lowest(out: &mut [u32], i: u32, j: u32, bits: u64) -> usize

@@ -11,7 +11,7 @@ use Rattle.algebra.proofs.Parts.{part, length-lent}
 use Rattle.checks.specs.Answers.{Check, fine}
 use Rattle.checks.specs.Rules.{shapeChecks}
 use Rattle.checks.specs.Told.{toldCheck}
-use Rattle.listing.specs.Rules.{triangles, nine}
+use Rattle.boxes.specs.Triangles.{triangles, nine}
 use Rattle.listing.proofs.ListChecks.{all-fine, first-refused}
 use Rattle.listing.proofs.input.each_checked.Statement.{statement}
 use Rattle.listing.proofs.input.each_checked.Tie as tie

@@ -2,9 +2,9 @@
 use Prim.Native.Nat.{_*_}
 use native.Mathlib.Omega.{arith}
 use borrow.Author.Needs.{needs}
+use Rattle.deciding.proofs.WordLaws.{few-below}
 use Rattle.listing.proofs.Filling.{length-free}
 use Rattle.listing.proofs.Found.{length-numbers, no-room, enough-room}
-use Rattle.listing.proofs.WordLaws.{few-below}
 use Rattle.listing.proofs.pairs.list_found.Statement.{statement}
 use Rattle.listing.proofs.pairs.list_found.Tie as tie
 

@@ -7,8 +7,9 @@ use borrow.Author.Needs.{needs}
 use borrow.Author.Tests.{eq-eqb, ne-eqb}
 use lib.ListN.{length, set}
 use lib.Seq.{sets-eq}
+use Rattle.deciding.specs.Words.{bit}
 use Rattle.listing.specs.Pairs.{pairIf, twoEach}
-use Rattle.listing.specs.Words.{bit, Wrote}
+use Rattle.listing.specs.Writing.{Wrote}
 use Rattle.listing.proofs.writing.put_lowest.Statement.{statement}
 use Rattle.listing.proofs.writing.put_lowest.Tie as tie
 

@@ -5,8 +5,9 @@ use Prim.Native.Nat.{ℕ, suc, _+_, _-_, _*_, _/_, _^_, _<_, _≤_}
 use native.Mathlib.Omega.{arith}
 use borrow.Author.Needs.{needs}
 use lib.ListN.{length, getD}
+use Rattle.deciding.specs.Words.{firstOf}
 use Rattle.listing.specs.Pairs.{gathered, twoEach}
-use Rattle.listing.specs.Words.{wordPairs, toldBy, firstOf, Wrote}
+use Rattle.listing.specs.Writing.{wordPairs, toldBy, Wrote}
 use Rattle.listing.proofs.Filling.{Filling, filling-starts, free-part, length-free, room-for-more, filled-on, filling-ends}
 use Rattle.listing.proofs.Gathering.{two-each-append}
 use Rattle.listing.proofs.writing.put_pairs.Statement.{statement}

@@ -4,11 +4,12 @@ use mathlib.Core.List.{List, _++_}
 use Prim.Native.Nat.{ℕ, zero, suc, _+_, _-_, _/_, _^_, _<_, _≤_}
 use native.Mathlib.Omega.{arith}
 use borrow.Author.Needs.{needs}
+use Rattle.deciding.specs.Words.{bit}
 use Rattle.listing.specs.Pairs.{pairIf, twoEach}
-use Rattle.listing.specs.Words.{bit, wordPairs}
+use Rattle.listing.specs.Writing.{wordPairs}
 use Rattle.listing.proofs.Filling.{Filling, filling-starts, length-free, room-for-more, filled-on, filling-ends}
 use Rattle.listing.proofs.Gathering.{two-each-append}
-use Rattle.listing.proofs.WordLaws.{half-small, no-more}
+use Rattle.listing.proofs.Telling.{half-small, no-more}
 use Rattle.listing.proofs.writing.put_word.Statement.{statement}
 use Rattle.listing.proofs.writing.put_word.Tie as tie
 

@@ -1,0 +1,142 @@
+-- What the words of verdicts tell (specs/Writing.antt): the pairs of a word, and that all words together tell the pairs that meet.
+-- Assumes nothing.
+use mathlib.Core.Path.{_≡_, refl, sym, ap, ap₂, _∙_}
+use mathlib.Core.Bool.{Bool, true, false}
+use mathlib.Core.List.{List, [], _++_}
+use Prim.Native.Nat.{ℕ, zero, suc, _+_, _-_, _*_, _/_, _%_, _^_, _<_, _≤_, min}
+use native.Mathlib.Omega.{arith}
+use borrow.Author.Tests.{eqb-true, eqb-false, ltb-true, ltb-false}
+use lib.Dec.{eqb, ltb}
+use lib.IntN.{ℤ}
+use lib.ListN.{length, length-append, getD}
+use Rattle.kernel.specs.Meeting.{Judges}
+use Rattle.boxes.specs.Triangles.{triangles, nine}
+use Rattle.deciding.specs.Words.{bit, ones, firstOf, span, onesBelow, VerdictsBelow}
+use Rattle.listing.specs.Pairs.{Pair, gathered, pairIf, pairsOf}
+use Rattle.listing.specs.Writing.{wordPairs, toldBy}
+use Rattle.listing.proofs.Gathering.{gathered-same, gathered-split, gathered-last, gathered-blocks}
+
+-- ---- the pairs of one word
+-- Its higher bits are a word of one bit fewer.
+pub half-small : (n word : ℕ) → word < 2 ^ suc n → word / 2 < 2 ^ n
+half-small n word small = omega arith
+
+-- A word of 0 tells none.
+pub no-more : (i from n : ℕ) → wordPairs i from n 0 ≡ []
+no-more i from zero = refl
+no-more i from (suc n) = no-more i (suc from) n
+
+-- There are as many as bits that are set.
+length-word-pairs : (i from n word : ℕ) → length (wordPairs i from n word) ≡ ones n word
+length-word-pairs i from zero word = refl
+length-word-pairs i from (suc n) word =
+    length-append (pairIf (bit 0 word) i from) (wordPairs i (suc from) n (word / 2))
+    ∙ ap₂ _+_ (by-test (eqb (word % 2) 1) refl) (length-word-pairs i (suc from) n (word / 2))
+  where
+    by-test : (t : Bool) → eqb (word % 2) 1 ≡ t → length (pairIf t i from) ≡ word % 2
+    by-test true e = sym (eqb-true (word % 2) 1 e)
+    by-test false e =
+        let none : (word % 2 ≡ 1 → ⊥) = eqb-false (word % 2) 1 e in
+        omega arith
+
+-- They are gathered by its bits.
+word-pairs : (i from n word : ℕ) → wordPairs i from n word ≡ gathered (λ j. pairIf (bit (j - from) word) i j) from n
+word-pairs i from zero word = refl
+word-pairs i from (suc n) word =
+    ap₂ _++_ (ap (λ (t : ℕ). pairIf (bit t word) i from) start)
+    (word-pairs i (suc from) n (word / 2) ∙ gathered-same _ _ (suc from) n each)
+  where
+    start : 0 ≡ from - from
+    start = omega arith
+
+    each : (t : ℕ) → t < n →
+        pairIf (bit (suc from + t - suc from) (word / 2)) i (suc from + t) ≡ pairIf (bit (suc from + t - from) word) i (suc from + t)
+    each t h =
+        let below : suc from + t - suc from ≡ t = omega arith in
+        let above : suc from + t - from ≡ suc t = omega arith in
+        rw (below, above)
+
+-- ---- the pairs of all words
+pub length-told : (m : ℕ) (words : List ℕ) (k : ℕ) → length (gathered (toldBy m words) 0 k) ≡ onesBelow m words k
+length-told m words zero = refl
+length-told m words (suc k) =
+    ap length (gathered-last (toldBy m words) 0 k)
+    ∙ length-append (gathered (toldBy m words) 0 k) (toldBy m words (0 + k))
+    ∙ ap₂ _+_ (length-told m words k)
+    (ap (λ (w : ℕ). length (toldBy m words w)) start ∙ length-word-pairs (k / 16) (firstOf k) (span m (firstOf k)) (getD words k 0))
+  where
+    start : 0 + k ≡ k
+    start = omega arith
+
+-- The verdict on triangle i of the first list and triangle j of the second.
+abbrev pub kept : List ℕ → ℕ → ℕ → Bool
+kept words i j = bit (j % 64) (getD words (i * 16 + j / 64) 0)
+
+module _ (words : List ℕ) (m i : ℕ) where
+  -- The pair of i and j, where it is kept.
+  abbrev here : ℕ → List Pair
+  here j = pairIf (kept words i j) i j
+
+  -- What word w of triangle i tells.
+  word-row : (w : ℕ) → w < 16 → toldBy m words (i * 16 + w) ≡ gathered here (w * 64) (span m (w * 64))
+  word-row w few =
+      let row : (i * 16 + w) / 16 ≡ i = omega arith in
+      let first : firstOf (i * 16 + w) ≡ w * 64 = omega arith in
+      let same : toldBy m words (i * 16 + w) ≡ wordPairs i (w * 64) (span m (w * 64)) word = rw (row, first) in
+      same ∙ word-pairs i (w * 64) (span m (w * 64)) word ∙ gathered-same _ _ (w * 64) (span m (w * 64)) each
+    where
+      word : ℕ
+      word = getD words (i * 16 + w) 0
+
+      each : (t : ℕ) → t < span m (w * 64) → pairIf (bit (w * 64 + t - w * 64) word) i (w * 64 + t) ≡ here (w * 64 + t)
+      each t h =
+          let below : w * 64 + t - w * 64 ≡ t = omega arith in
+          let rest : (w * 64 + t) % 64 ≡ t = omega arith in
+          let whole : (w * 64 + t) / 64 ≡ w = omega arith in
+          rw (below, rest, whole)
+
+  -- What its first w words tell: all on the triangles before 64 w.
+  first-words : (w : ℕ) → w ≤ 16 → gathered (λ v. toldBy m words (i * 16 + v)) 0 w ≡ gathered here 0 (min (w * 64) m)
+  first-words zero few =
+      let none : min (0 * 64) m ≡ 0 = omega arith in
+      rw none
+  first-words (suc w) few =
+      let last : 0 + w ≡ w = omega arith in
+      let all : min (w * 64) m + span m (w * 64) ≡ min (suc w * 64) m = omega arith in
+      gathered-last (λ v. toldBy m words (i * 16 + v)) 0 w
+      ∙ ap₂ _++_ (first-words w (omega arith))
+      (ap (λ (v : ℕ). toldBy m words (i * 16 + v)) last ∙ word-row w few ∙ by-test (ltb (w * 64) m) refl)
+      ∙ sym (gathered-split here 0 (min (w * 64) m) (span m (w * 64)))
+      ∙ ap (gathered here 0) all
+    where
+      -- The word begins where the words before it end, or tells nothing.
+      by-test : (t : Bool) → ltb (w * 64) m ≡ t →
+          gathered here (w * 64) (span m (w * 64)) ≡ gathered here (0 + min (w * 64) m) (span m (w * 64))
+      by-test true e =
+          let inside = ltb-true (w * 64) m e in
+          let start : w * 64 ≡ 0 + min (w * 64) m = omega arith in
+          ap (λ (from : ℕ). gathered here from (span m (w * 64))) start
+      by-test false e =
+          let outside = ltb-false (w * 64) m e in
+          let none : span m (w * 64) ≡ 0 = omega arith in
+          rw none
+
+  -- What its sixteen words tell, of at most 1,024 triangles.
+  all-words : m ≤ 1024 → gathered (λ v. toldBy m words (i * 16 + v)) 0 16 ≡ gathered here 0 m
+  all-words few =
+      let all : min (16 * 64) m ≡ m = omega arith in
+      first-words 16 (omega arith) ∙ ap (gathered here 0) all
+
+pub all-told : (words : List ℕ) (n m : ℕ) → m ≤ 1024 → gathered (toldBy m words) 0 (n * 16) ≡ pairsOf (kept words) n m
+all-told words n m few =
+    gathered-blocks (toldBy m words) n 16 ∙ gathered-same _ _ 0 n (λ t h. all-words words m (0 + t) few)
+
+-- The verdicts that are kept are right where those of all words are.
+pub kept-right : (a b : List ℤ) (words : List ℕ) → triangles b ≤ 1024 → VerdictsBelow a b words (triangles a * 16) →
+    (i j : ℕ) → i < triangles a → j < triangles b → Judges 3 3 3 (nine i a) (nine j b) (kept words i j)
+kept-right a b words few right i j p q =
+    let k : ℕ = i * 16 + j / 64 in
+    let row : k / 16 ≡ i = omega arith in
+    let place : firstOf k + j % 64 ≡ j = omega arith in
+    let verdict = right k (omega arith) .right (j % 64) (omega arith) in
+    rw (row, place) at verdict
