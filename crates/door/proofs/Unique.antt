@@ -10,8 +10,9 @@ use Rattle.predicate.specs.Rules.{signRule}
 use Rattle.predicate.proofs.Unique.{rule-fixed}
 use Rattle.listing.proofs.Unique.{list-unique}
 use Rattle.shape.specs.Signs.{digit}
-use Rattle.door.specs.Numbers.{verdictCode, fourNumbers}
-use Rattle.door.specs.Buffer.{Written, VerdictWritten, ListWritten, undone, done}
+use Rattle.telling.specs.Numbers.{verdictCode, fourNumbers}
+use Rattle.telling.specs.Buffer.{Written}
+use Rattle.door.specs.Doors.{VerdictWritten, ListWritten, undone, done}
 
 -- Whatever the numbers are.
 pub written-unique : {numbers before : List ℕ} {r s : ℕ} {after after′ : List ℕ} →

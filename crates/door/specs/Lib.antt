@@ -1,5 +1,2 @@
--- What the contracts of the doors cite: the four numbers of an answer (Numbers), what becomes of the buffer (Buffer), and a run of calls on a
--- plate (PlateRuns).
-pub mod Numbers
-pub mod Buffer
-pub mod PlateRuns
+-- What the contracts of the doors cite beside the crates below: the doors of the verdict calls and of the listing (Doors).
+pub mod Doors

@@ -1,10 +1,11 @@
 // The doors for programs in C and Rust: each public call of crates `predicate` and `listing` that they are to have, with its answer written
-// as four numbers into a buffer that the caller lends. include/zimogrud.h declares them for C.
+// as four numbers into a buffer that the caller lends (crate `telling`), and a run of calls on a plate (crate `runs`). include/zimogrud.h
+// declares them for C.
 //
-// A door has no `requires`: any lists and any buffer may be given. specs/Numbers.antt gives the four numbers of every answer,
-// specs/Buffer.antt the result and the buffer afterwards, and proofs/Unique.antt shows that nothing else meets a contract.
+// A door has no `requires`: any lists and any buffer may be given. In crate `telling` specs/Numbers.antt gives the four numbers of every answer
+// and specs/Buffer.antt the result and the buffer afterwards; specs/Doors.antt cites them for the verdicts and the listing, and
+// proofs/Unique.antt shows that nothing else meets a contract.
 mod listings;
-mod numbers;
 mod plates;
 mod signs;
 mod verdicts;

@@ -1,23 +1,7 @@
 // The door of the listing.
-use crate::numbers::Numbers;
-use crate::numbers::put;
-use crate::numbers::refused_numbers;
-use crate::numbers::served_numbers;
-use listing::ListAnswer;
-ghost use mathlib.Core.Path.{_≡_};
-ghost use Rattle.listing.specs.Told.{toldList};
-ghost use Rattle.door.specs.Numbers.{fourNumbers, listed};
-ghost use Rattle.door.specs.Buffer.{ListWritten};
-
-// The numbers of a listing's answer: what it serves is the count of the pairs.
-fn list_numbers(told: ListAnswer) -> Numbers
-    ensures { λ r. ⌜ listed r ≡ fourNumbers (toldList told) ⌝ }
-{
-    match told {
-        ListAnswer::Refused(why) => refused_numbers(why),
-        ListAnswer::Listed(pairs) => served_numbers(pairs as u64),
-    }
-}
+use telling::list_numbers;
+use telling::put;
+ghost use Rattle.door.specs.Doors.{ListWritten};
 
 // Every pair of triangles of two lists that have a point in common. Pairs that the caller couldn't be told the count of aren't written.
 #[no_mangle]

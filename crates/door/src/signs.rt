@@ -1,39 +1,11 @@
 // The doors of the sign calls.
-use crate::numbers::Numbers;
-use crate::numbers::put;
-use crate::numbers::refused_numbers;
-use crate::numbers::served_numbers;
-use predicate::Sign;
-use predicate::SignAnswer;
-ghost use mathlib.Core.Path.{_≡_};
+use telling::put;
+use telling::sign_numbers;
 ghost use Rattle.checks.specs.Answers.{withServed};
 ghost use Rattle.predicate.specs.Rules.{signRule};
-ghost use Rattle.exact.specs.Vectors.{signNumber};
-ghost use Rattle.predicate.specs.Told.{toldSign};
 ghost use Rattle.shape.specs.Signs.{digit};
-ghost use Rattle.door.specs.Numbers.{fourNumbers, listed};
-ghost use Rattle.door.specs.Buffer.{Written};
-
-// The number of a sign.
-fn sign_code(sign: Sign) -> u64
-    ensures { λ r. ⌜ r ≡ digit (signNumber sign) ⌝ }
-{
-    match sign {
-        Sign::Negative => 0,
-        Sign::Zero => 1,
-        Sign::Positive => 2,
-    }
-}
-
-// The numbers of a sign call's answer.
-fn sign_numbers(told: SignAnswer) -> Numbers
-    ensures { λ r. ⌜ listed r ≡ fourNumbers (withServed digit (toldSign told)) ⌝ }
-{
-    match told {
-        SignAnswer::Refused(why) => refused_numbers(why),
-        SignAnswer::Signed(sign) => served_numbers(sign_code(sign)),
-    }
-}
+ghost use Rattle.telling.specs.Numbers.{fourNumbers};
+ghost use Rattle.telling.specs.Buffer.{Written};
 
 // The flat turn sign of six numbers, three points.
 #[no_mangle]

@@ -1,25 +1,7 @@
 // The doors of the verdict calls.
-use crate::numbers::Numbers;
-use crate::numbers::put;
-use crate::numbers::refused_numbers;
-use crate::numbers::served_numbers;
-use predicate::VerdictAnswer;
-ghost use mathlib.Core.Path.{_≡_};
-ghost use Rattle.checks.specs.Answers.{withServed};
-ghost use Rattle.predicate.specs.Told.{toldVerdict};
-ghost use Rattle.door.specs.Numbers.{verdictCode, fourNumbers, listed};
-ghost use Rattle.door.specs.Buffer.{VerdictWritten};
-
-// The numbers of a verdict call's answer.
-pub fn verdict_numbers(told: VerdictAnswer) -> Numbers
-    ensures { λ r. ⌜ listed r ≡ fourNumbers (withServed verdictCode (toldVerdict told)) ⌝ }
-{
-    match told {
-        VerdictAnswer::Refused(why) => refused_numbers(why),
-        VerdictAnswer::Apart => served_numbers(0),
-        VerdictAnswer::Meeting => served_numbers(1),
-    }
-}
+use telling::put;
+use telling::verdict_numbers;
+ghost use Rattle.door.specs.Doors.{VerdictWritten};
 
 // The flat test of two triangles in the plane, six numbers each.
 #[no_mangle]

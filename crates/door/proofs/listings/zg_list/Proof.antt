@@ -6,7 +6,8 @@ use borrow.Author.Needs.{needs}
 use borrow.Author.Tests.{lt-ltb, le-ltb}
 use lib.ListN.{length}
 use Rattle.listing.specs.Told.{toldList}
-use Rattle.door.specs.Buffer.{Written, undone, done}
+use Rattle.telling.specs.Buffer.{Written}
+use Rattle.door.specs.Doors.{undone, done}
 use Rattle.door.proofs.listings.zg_list.Statement.{statement}
 use Rattle.door.proofs.listings.zg_list.Tie as tie
 

@@ -2,7 +2,7 @@
 -- Assumes nothing.
 use borrow.Author.Needs.{needs}
 use Rattle.shape.specs.Signs.{digit}
-use Rattle.door.proofs.BufferLaws.{told-right}
+use Rattle.telling.proofs.BufferLaws.{told-right}
 use Rattle.door.proofs.signs.zg_turn.Statement.{statement}
 use Rattle.door.proofs.signs.zg_turn.Tie as tie
 

@@ -3,8 +3,8 @@
 use borrow.Author.Needs.{needs}
 use mathlib.Core.Path.{refl}
 use Rattle.predicate.specs.Told.{toldVerdict}
-use Rattle.door.specs.Numbers.{verdictCode}
-use Rattle.door.proofs.BufferLaws.{told-right}
+use Rattle.telling.specs.Numbers.{verdictCode}
+use Rattle.telling.proofs.BufferLaws.{told-right}
 use Rattle.door.proofs.verdicts.zg_flat.Statement.{statement}
 use Rattle.door.proofs.verdicts.zg_flat.Tie as tie
 

@@ -1,0 +1,25 @@
+-- What the doors of the verdict calls and of the listing promise: the four numbers of the one answer that is right, in the buffer that they are
+-- lent (crate `telling`). The contracts of the sign doors and of the plate's door cite the crates below alone.
+use mathlib.Core.Path.{_≡_}
+use mathlib.Core.Bool.{Bool, true, false}
+use mathlib.Core.List.{List}
+use Prim.Native.Nat.{ℕ}
+use lib.IntN.{ℤ}
+use Rattle.checks.specs.Answers.{Answer, withServed}
+use Rattle.predicate.specs.Rules.{VerdictRule}
+use Rattle.listing.specs.Rules.{ListRule}
+use Rattle.telling.specs.Numbers.{verdictCode, fourNumbers}
+use Rattle.telling.specs.Buffer.{tooShort, Written}
+
+-- What the door of a verdict call promises: the four numbers are those of the one answer that is right.
+pub record VerdictWritten (n k m : ℕ) (first second : List ℤ) (before : List ℕ) (result : ℕ) (after : List ℕ) : Type 0 where
+  pub told : Answer Bool
+  pub right : VerdictRule n k m first second told
+  pub written : Written (fourNumbers (withServed verdictCode told)) before result after
+
+-- What the door of the listing promises of its two buffers, `buffer` for the pairs and `before` for the answer: where there is no room for an
+-- answer nothing is done at all; otherwise the pairs are those of the one answer that is right, and so are the four numbers.
+pub data ListWritten (a b : List ℤ) (buffer : List ℕ) (start : ℕ) (before : List ℕ) : (result : ℕ) (filled after : List ℕ) → Type 0 where
+  undone : tooShort before ≡ true → ListWritten a b buffer start before 1 buffer before
+  done : {result : ℕ} {filled after : List ℕ} (told : Answer ℕ) → tooShort before ≡ false → ListRule a b buffer start told filled →
+      Written (fourNumbers told) before result after → ListWritten a b buffer start before result filled after

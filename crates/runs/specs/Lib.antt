@@ -1,0 +1,2 @@
+-- What the contract of a run of calls cites (PlateRuns).
+pub mod PlateRuns
