@@ -1,4 +1,4 @@
--- `bench::size_of` meets its contract: for z < 0 the number -(z + 1) is not negative, and one less than the size of z.
+-- `printing::saying::size_of` meets its contract: for z < 0 the number -(z + 1) is not negative, and one less than the size of z.
 -- Assumes nothing.
 use borrow.Author.Needs.{needs}
 use borrow.Author.Tests.{ltb-true}
@@ -12,8 +12,8 @@ use lib.Signed.{ltZ, mag, nonNeg}
 use mir.Syntax.{w64}
 use mir.Val.{Fits, SFits, toZ, ofZ}
 use mir.Facts.{toZ-ofZ, fits-natAbs}
-use Rattle.bench.proofs.size_of.Statement.{statement}
-use Rattle.bench.proofs.size_of.Tie as tie
+use Rattle.printing.proofs.saying.size_of.Statement.{statement}
+use Rattle.printing.proofs.saying.size_of.Tie as tie
 
 abbrev kept : ℤ → ℤ
 kept z = toZ w64 (ofZ w64 z)

@@ -1,10 +1,10 @@
--- `bench::say_numbers` is safe: i stays below the length. Assumes nothing.
+-- `printing::saying::say_numbers` is safe: i stays below the length. Assumes nothing.
 use Prim.Native.Nat.{_-_, _≤_}
 use native.Mathlib.Omega.{arith}
 use borrow.Author.Needs.{needs}
 use lib.ListN.{length}
-use Rattle.bench.proofs.say_numbers.Statement.{statement}
-use Rattle.bench.proofs.say_numbers.Tie as tie
+use Rattle.printing.proofs.saying.say_numbers.Statement.{statement}
+use Rattle.printing.proofs.saying.say_numbers.Tie as tie
 
 abbrev Inv-loop : tie.InvT-loop
 Inv-loop numbers i₀ t3 i = i ≤ length numbers

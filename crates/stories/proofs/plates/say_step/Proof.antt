@@ -1,9 +1,9 @@
--- `bench::say_step` is safe: a number of 32 bits keeps its value in 64. Assumes nothing.
+-- `stories::plates::say_step` is safe: a number of 32 bits keeps its value in 64. Assumes nothing.
 use borrow.Author.Needs.{needs}
 use mir.Syntax.{w32}
 use mir.Facts.{toZ-ofZ, sfits-widen}
-use Rattle.bench.proofs.say_step.Statement.{statement}
-use Rattle.bench.proofs.say_step.Tie as tie
+use Rattle.stories.proofs.plates.say_step.Statement.{statement}
+use Rattle.stories.proofs.plates.say_step.Tie as tie
 
 slice-aggregate-say : tie.Need-slice-aggregate-say
 slice-aggregate-say c = search needs

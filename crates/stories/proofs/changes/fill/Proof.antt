@@ -1,8 +1,8 @@
--- `bench::fill` is safe and ends: the slot stays below `to`, so that one more is still a usize. Assumes nothing.
+-- `stories::changes::fill` is safe and ends: the slot stays below `to`, so that one more is still a usize. Assumes nothing.
 use Prim.Native.Nat.{_-_, _≤_}
 use borrow.Author.Needs.{needs}
-use Rattle.bench.proofs.fill.Statement.{statement}
-use Rattle.bench.proofs.fill.Tie as tie
+use Rattle.stories.proofs.changes.fill.Statement.{statement}
+use Rattle.stories.proofs.changes.fill.Tie as tie
 
 abbrev Inv-loop : tie.InvT-loop
 Inv-loop from to filled₀ slot₀ t8 filled slot = from ≤ slot

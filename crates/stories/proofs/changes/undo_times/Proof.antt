@@ -1,8 +1,8 @@
--- `bench::undo_times` is safe and ends: n stays within `times`. Assumes nothing.
+-- `stories::changes::undo_times` is safe and ends: n stays within `times`. Assumes nothing.
 use Prim.Native.Nat.{_-_, _≤_}
 use borrow.Author.Needs.{needs}
-use Rattle.bench.proofs.undo_times.Statement.{statement}
-use Rattle.bench.proofs.undo_times.Tie as tie
+use Rattle.stories.proofs.changes.undo_times.Statement.{statement}
+use Rattle.stories.proofs.changes.undo_times.Tie as tie
 
 abbrev Inv-loop : tie.InvT-loop
 Inv-loop times left₀ n₀ left n = n ≤ times

@@ -1,8 +1,8 @@
--- `bench::undos_served` is safe and ends: n stays within 100. Assumes nothing.
+-- `stories::changes::undos_served` is safe and ends: n stays within 100. Assumes nothing.
 use Prim.Native.Nat.{_-_, _≤_}
 use borrow.Author.Needs.{needs}
-use Rattle.bench.proofs.undos_served.Statement.{statement}
-use Rattle.bench.proofs.undos_served.Tie as tie
+use Rattle.stories.proofs.changes.undos_served.Statement.{statement}
+use Rattle.stories.proofs.changes.undos_served.Tie as tie
 
 abbrev Inv-loop : tie.InvT-loop
 Inv-loop left₀ n₀ left n = n ≤ 100

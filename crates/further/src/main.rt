@@ -1,0 +1,281 @@
+// Further rows of each call, and what each call refuses and in which order, as the compiled calls answer them, a line a row. What it
+// prints is compared with the file `stdout` beside this folder.
+//
+// A table is a text, a line a row: the row's name and a colon, then its lists with a semicolon between them. A line with no colon is a
+// heading. A is (0,0,0) (4,0,0) (0,4,0) in space and (0,0) (4,0) (0,4) in the plane. The grid ends at 524288 and -524288.
+use plate::Plate;
+use printing::Call;
+use printing::rows;
+use printing::say;
+use stories::fill;
+use stories::lift_row;
+use stories::parts_row;
+use stories::place_rows;
+use stories::say_plate;
+use stories::shift_row;
+use stories::undo_row;
+use stories::undo_times;
+
+// The end of the grid.
+const L: i32 = 524_288;
+
+const A: [i32; 9] = [0, 0, 0, 4, 0, 0, 0, 4, 0];
+
+// P1's second triangle, which meets A, and P2's second, which meets P1's but not A.
+const ACROSS: [i32; 9] = [1, 1, -1, 1, 1, 1, 5, 5, 1];
+
+const ABOVE: [i32; 9] = [1, 1, 1, 2, 1, 1, 1, 2, 1];
+
+// The turn: the other signs and the ends of the grid; then lengths, several bad positions, and numbers past the ends of the grid.
+fn turns() {
+    rows(
+        Call::Turn,
+        b"Further rows of the turn\n\
+          to the right: 0 0 0 4 4 0\n\
+          on a line: 0 0 2 2 5 5\n\
+          equal points: 3 -1 3 -1 0 7\n\
+          all at an end of the grid: -524288 -524288 524288 -524288 -524288 524288\n\
+          no numbers:\n\
+          5 numbers: 0 0 4 0 0\n\
+          7 numbers, the first off the grid: 524289 0 4 0 0 4 0\n\
+          12 numbers: 0 0 0 1 0 0 0 1 0 0 0 1\n\
+          positions 2 and 4 off the grid: 0 0 524289 0 -524289 4\n\
+          only the last off the grid: 0 0 4 0 0 -524289\n\
+          the ends of 32 bits: -2147483648 2147483647 4 0 0 4\n",
+    );
+}
+
+// The same of the side.
+fn sides() {
+    rows(
+        Call::Side,
+        b"Further rows of the side\n\
+          (0,0,0) (1,0,0) (0,1,0) (0,0,1): 0 0 0 1 0 0 0 1 0 0 0 1\n\
+          in one plane: 0 0 0 1 0 0 0 1 0 5 7 0\n\
+          all at an end of the grid: -524288 -524288 -524288 524288 -524288 -524288 -524288 -524288 524288 -524288 524288 -524288\n\
+          no numbers:\n\
+          6 numbers: 0 0 4 0 0 4\n\
+          11 numbers: 0 0 0 1 0 0 0 1 0 0 0\n\
+          13 numbers, the last off the grid: 0 0 0 1 0 0 0 1 0 0 0 1 524289\n\
+          positions 3, 7 and 11 off the grid: 0 0 0 -524289 0 0 0 524289 0 0 0 524289\n\
+          only the last off the grid: 0 0 0 1 0 0 0 1 0 0 0 524289\n",
+    );
+}
+
+// The flat test where the triangles touch or nearly do; then what it refuses, and in which order.
+fn flats() {
+    rows(
+        Call::Flat,
+        b"Further rows of the flat test\n\
+          A; A: 0 0 4 0 0 4; 0 0 4 0 0 4\n\
+          one corner: 0 0 4 0 0 4; 4 0 5 0 5 1\n\
+          one edge: 0 0 4 0 0 4; 0 0 4 0 0 -4\n\
+          a corner on an edge: 0 0 4 0 0 4; 2 2 5 2 5 5\n\
+          a corner one past the edge: 0 0 4 0 0 4; 3 2 5 2 5 5\n\
+          inside, both turning right: 0 0 0 4 4 0; 1 1 1 2 2 1\n\
+          from end to end of the grid, across: \
+          -524288 -524288 524288 524288 -524288 524288; 524288 -524288 -524288 524288 -524288 -524288\n\
+          from end to end of the grid, apart: -524288 -524288 524288 -524288 -524288 524288; 524288 524288 1 524288 524288 1\n\
+          Refusals of the flat test\n\
+          no numbers; no numbers: ;\n\
+          A; 5 numbers: 0 0 4 0 0 4; 0 0 4 0 0\n\
+          off the grid; 9 numbers: 524289 0 4 0 0 4; 0 0 0 4 0 0 0 4 0\n\
+          off the grid and flat; A: 0 0 0 0 524289 0; 0 0 4 0 0 4\n\
+          flat; off the grid: 0 0 0 0 4 0; -524289 0 4 0 0 4\n\
+          A; positions 3 and 5 off the grid: 0 0 4 0 0 4; 0 0 4 -524289 0 524289\n\
+          A; flat: 0 0 4 0 0 4; 5 5 1 1 3 3\n",
+    );
+}
+
+// Triangles in space: corners on the other's plane, planes that stand upright, and the ends of the grid; then what the test refuses,
+// and in which order.
+fn pairs() {
+    rows(
+        Call::Pair,
+        b"Further rows of the test in space\n\
+          a corner on the other's plane: 2 -2 3 1 1 3 2 4 -1; 2 1 1 -2 3 3 2 -3 -1\n\
+          in one upright plane, one inside the other: 5 0 0 5 9 0 5 0 9; 5 1 1 5 2 1 5 1 2\n\
+          in one upright plane, apart: 0 5 0 4 5 0 0 5 4; 3 5 3 5 5 3 3 5 5\n\
+          from end to end of the grid, one point in common: \
+          -524288 -524288 -524288 524288 524288 524288 524288 -524288 0; 0 0 0 -524288 524288 524288 -524288 524288 -524288\n\
+          no numbers; no numbers: ;\n\
+          off the grid; 6 numbers: 524289 0 0 4 0 0 0 4 0; 0 0 0 4 0 0\n\
+          flat; off the grid: 0 0 0 4 0 0 8 0 0; 0 0 0 4 0 0 0 4 524289\n\
+          A; flat: 0 0 0 4 0 0 0 4 0; 1 2 3 1 2 3 0 4 0\n",
+    );
+}
+
+// A segment and a triangle in space, and what the test of them refuses.
+fn segments() {
+    rows(
+        Call::Segment,
+        b"Further rows of the segment test\n\
+          through A: 1 1 -1 1 1 1; 0 0 0 4 0 0 0 4 0\n\
+          past A: 3 3 -1 3 3 1; 0 0 0 4 0 0 0 4 0\n\
+          ending on an edge of A: 2 2 5 2 2 0; 0 0 0 4 0 0 0 4 0\n\
+          in the plane of A, past it: 5 0 0 0 5 0; 0 0 0 4 0 0 0 4 0\n\
+          equal ends; A: 1 1 0 1 1 0; 0 0 0 4 0 0 0 4 0\n\
+          A; a segment: 0 0 0 4 0 0 0 4 0; 1 1 -1 1 1 1\n\
+          equal ends off the grid; A: 0 0 524289 0 0 524289; 0 0 0 4 0 0 0 4 0\n",
+    );
+}
+
+// Listings: the ends of the buffer, and empty lists; then what is refused, and in which order, for the start and the lengths and for
+// what the checks find in lists of two triangles. After its lists a row has the start in the buffer.
+fn lists() {
+    rows(
+        Call::List,
+        b"Further rows of the listing\n\
+          no triangles, start 7: ; ; 7\n\
+          no triangles, start 8: ; ; 8\n\
+          one list empty: 0 0 0 4 0 0 0 4 0 1 1 1 2 1 1 1 2 1; ; 0\n\
+          a pair, exactly full: 0 0 0 4 0 0 0 4 0; 0 0 0 4 0 0 0 4 0; 5\n\
+          a pair, one number short: 0 0 0 4 0 0 0 4 0; 0 0 0 4 0 0 0 4 0; 6\n\
+          Refusals of the listing\n\
+          8 numbers; 10 numbers, start 8: 0 0 0 4 0 0 0 4; 0 0 0 4 0 0 0 4 0 1; 8\n\
+          8 numbers; 10 numbers: 0 0 0 4 0 0 0 4; 0 0 0 4 0 0 0 4 0 1; 0\n\
+          off the grid; 10 numbers: 0 0 0 524289 0 0 0 4 0; 0 0 0 4 0 0 0 4 0 1; 0\n\
+          flat, then off the grid: 0 0 0 4 0 0 8 0 0 0 0 0 524289 0 0 0 4 0; 0 0 0 4 0 0 0 4 0; 0\n\
+          fine, then positions 14 and 16 off the grid: 0 0 0 4 0 0 0 4 0 1 1 1 2 1 524289 1 524289 1; 0 0 0 4 0 0 0 4 0; 0\n\
+          fine; fine, then flat: 0 0 0 4 0 0 0 4 0; 0 0 0 4 0 0 0 4 0 1 1 1 2 2 2 3 3 3; 0\n\
+          flat; off the grid: 0 0 0 4 0 0 8 0 0; 0 0 0 4 0 0 0 4 524289; 0\n\
+          too little room; fine, then flat: 0 0 0 4 0 0 0 4 0 1 1 1 2 1 1 1 2 1; 1 1 -1 1 1 1 5 5 1 4 0 0 5 0 1 6 0 2; 3\n",
+    );
+}
+
+// The reach below its end, and the most clashes that a plate can have.
+fn changes() {
+    say(b"Further changes of the plate\n40 changes, 5 undos, 3 changes: ");
+    let filled = fill(plate::empty(), 0, 40);
+    let left = undo_times(filled, 5);
+    say_plate(fill(left, 35, 38));
+    say(b"all 64 slots filled, 4 as each part: ");
+    say_plate(fill(plate::empty(), 0, 64));
+}
+
+// What place refuses for the slot and the part. After its colon a row has the slot and the part, then the triangle.
+fn place_number_refusals() -> Plate {
+    say(b"Further rows of place\n");
+    place_rows(
+        plate::empty(),
+        b"A in slot 63 as part 15: 63 15; 0 0 0 4 0 0 0 4 0\n\
+          slot 64, part 16, 8 numbers: 64 16; 0 0 0 4 0 0 0 4\n\
+          slot 2^64 - 1: 18446744073709551615 0; 0 0 0 4 0 0 0 4 0\n\
+          a filled slot, part 16, 8 numbers: 63 16; 0 0 0 4 0 0 0 4\n\
+          part 256: 0 256; 0 0 0 4 0 0 0 4 0\n",
+    )
+}
+
+// What it refuses for the triangle, and then for the slot, which has A as part 15; and two triangles that it places.
+fn place_list_refusals(plate: Plate) {
+    place_rows(
+        plate,
+        b"a filled slot, no numbers: 63 0;\n\
+          a filled slot, 10 numbers, the first off the grid: 63 0; 524289 0 0 4 0 0 0 4 0 0\n\
+          a filled slot, flat, positions 3 and 6 off the grid: 63 0; 0 0 0 524289 0 0 -524289 0 0\n\
+          a filled slot, flat: 63 0; 0 0 0 1 1 1 2 2 2\n\
+          a filled slot: 63 0; 0 0 0 4 0 0 0 4 0\n\
+          A in slot 0 as part 15: 0 15; 0 0 0 4 0 0 0 4 0\n\
+          A in slot 62 as part 0: 62 0; 0 0 0 4 0 0 0 4 0\n",
+    );
+}
+
+// Lift of A in slots 0 to 2, as parts 0 to 2: what it refuses, and a slot that is filled again.
+fn lifts() {
+    say(b"Further rows of lift\n");
+    let a = lift_row(fill(plate::empty(), 0, 3), 64);
+    let b = lift_row(a, 3);
+    let c = lift_row(b, 1);
+    let d = lift_row(c, 1);
+    let e = place_rows(d, b"A in slot 1 again, as part 0: 1 0; 0 0 0 4 0 0 0 4 0\n");
+    let f = undo_row(e);
+    undo_row(f);
+}
+
+// A plate after a place.
+fn placed(plate: Plate, slot: usize, part: usize, triangle: &[i32]) -> Plate {
+    let answer = plate::place(plate, slot, part, triangle);
+    answer.plate
+}
+
+// Part 2 has A in slot 5, and in slots 7 and 9 triangles that reach to one before the end of the grid and to its ends. Part 4
+// has a triangle that has the corner (4,0,0) in common with A.
+fn shift_plate() -> Plate {
+    let a = placed(plate::empty(), 5, 2, &A);
+    let b = placed(a, 7, 2, &[L - 5, 0, 0, L - 1, 0, 0, L - 5, 4, 0]);
+    let c = placed(b, 9, 2, &[L - 4, 0, 0, L, 0, 0, L - 4, 4, -L]);
+    placed(c, 11, 4, &[-9, 0, 0, 4, 0, 0, -9, 9, 0])
+}
+
+// What shift refuses, and in which order: a part above 15, a part with no triangle, and moves that would take slot 9, slots 7
+// and 9, and slot 9 off the grid.
+fn shift_refusals(plate: Plate) -> Plate {
+    let a = shift_row(plate, 16, 2147483647, 0, 0);
+    let b = shift_row(a, 3, 0, 2147483647, 0);
+    let c = shift_row(b, 2, 1, 0, 0);
+    let d = shift_row(c, 2, 2, 0, 0);
+    shift_row(d, 2, 0, 0, -1)
+}
+
+// Moves by the ends of 32 bits.
+fn shift_end_refusals(plate: Plate) -> Plate {
+    let a = shift_row(plate, 2, 2147483647, 0, 0);
+    let b = shift_row(a, 2, 0, -2147483648, 0);
+    shift_row(b, 4, 0, 0, -2147483648)
+}
+
+// Moves that are served: by nothing, and to the end of the grid, where part 2 leaves the triangle of part 4 with slot 5 and meets it
+// with slots 7 and 9. One further is refused.
+fn shifts() {
+    say(b"Further rows of shift\n");
+    let same = shift_end_refusals(shift_refusals(shift_plate()));
+    let a = shift_row(same, 2, 0, 0, 0);
+    let b = shift_row(a, 2, -L, 0, 0);
+    let c = shift_row(b, 2, -1, 0, 0);
+    undo_row(c);
+    say(b"Undo of the empty plate\n");
+    undo_row(plate::empty());
+}
+
+// Part 0 has A and P4's second triangle, which have an edge in common; part 1 has P1's second, part 2 P2's second.
+fn parts_plate() -> Plate {
+    let a = placed(plate::empty(), 0, 0, &A);
+    let b = placed(a, 1, 0, &[0, 0, 0, 4, 0, 0, 0, -4, 0]);
+    let c = placed(b, 2, 1, &ACROSS);
+    placed(c, 3, 2, &ABOVE)
+}
+
+// What parts refuses, and in which order. Parts 3 and 4 have no triangle.
+fn parts_refusals(plate: Plate) {
+    parts_row(plate, 16, 17);
+    parts_row(plate, 3, 16);
+    parts_row(plate, 3, 4);
+    parts_row(plate, 0, 4);
+    parts_row(plate, 3, 3);
+}
+
+fn parts() {
+    say(b"Further rows of parts\nfour triangles of three parts: ");
+    let plate = parts_plate();
+    say_plate(plate);
+    parts_refusals(plate);
+    parts_row(plate, 0, 0);
+    parts_row(plate, 0, 1);
+    parts_row(plate, 1, 0);
+    parts_row(plate, 0, 2);
+    parts_row(plate, 2, 1);
+}
+
+fn main() {
+    turns();
+    sides();
+    flats();
+    pairs();
+    segments();
+    lists();
+    changes();
+    place_list_refusals(place_number_refusals());
+    lifts();
+    shifts();
+    parts();
+}
