@@ -2,28 +2,7 @@
 
 use crate::ordinary::Answer;
 
-extern "C" {
-    fn zg_pair(a: *const i32, a_len: usize, b: *const i32, b_len: usize, answer: *mut u64, answer_len: usize) -> u32;
-    fn zg_list(
-        a: *const i32,
-        a_len: usize,
-        b: *const i32,
-        b_len: usize,
-        buffer: *mut u32,
-        buffer_len: usize,
-        start: usize,
-        answer: *mut u64,
-        answer_len: usize,
-    ) -> u32;
-    fn zg_plate(
-        calls: *const u32,
-        calls_len: usize,
-        numbers: *const i32,
-        numbers_len: usize,
-        answers: *mut u64,
-        answers_len: usize,
-    ) -> u64;
-}
+include!("../include/zimogrud.rs");
 
 pub fn pair(first: &[i32], second: &[i32]) -> Answer {
     let mut numbers = [0; 4];

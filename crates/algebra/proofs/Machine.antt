@@ -2,8 +2,8 @@
 -- computes it, is z, and that |z| ≤ n.
 --
 -- A signed value that is stored at a width w and read back stands in a goal as `toZ w (ofZ w v)`: its bits, read as a number.
--- Build a `Reads` along the code, from the leaves: `parameter` for a parameter, `element` for an element of a slice,
--- `exact` for a number that is not stored; `sum`, `difference`, `product` for the operations; and `held` where
+-- Build a `Reads` along the code, from the leaves: `parameter` for a parameter, `exact` for a number that is not stored;
+-- `sum`, `difference`, `product` for the operations; and `held` where
 -- a result was stored. Then `in-range` answers the need that an operation does not overflow, and the field `is` rewrites the
 -- machine's value to the whole number. The bounds are numbers that compute: `tt` answers each test that a bound is below
 -- 2 ^ hbits w, where hbits w is the number of bits of w without the sign.

@@ -1,7 +1,10 @@
 -- Laws of answers: what they tell, and the checks that stand before them (specs/Answers.antt, specs/Told.antt). Assumes nothing.
 use mathlib.Core.Path.{_≡_, refl, sym, ap, _∙_}
+use mathlib.Core.Bool.{Bool}
 use Prim.Native.Nat.{ℕ}
 use native.Mathlib.Omega.{arith}
+use Rattle.shape.specs.Verdicts.{Says}
+use Rattle.shape.proofs.VerdictLaws.{says-fixed}
 use Rattle.checks.specs.Answers.{Answer, served, refused, Check, fine, _then_, withServed}
 use Rattle.checks.specs.Told.{toldRefusal, toldCheck}
 use Rattle.checks.specs.declared.grid.Checked.{Checked}
@@ -30,6 +33,12 @@ served-later f (refused n s p) a = refl
 pub then-served : {A : Type 0} (c : Check) (a b : A) → served b ≡ (c then served a) → (c ≡ fine) × (b ≡ a)
 then-served (served u) a b e = (refl, cc)
 then-served (refused number side place) a b e = let z : _≡_ {A = ℕ} 0 1 = cc in absurd (omega arith)
+
+-- A check, and then a verdict: it is the same for every verdict that is right where the check is fine.
+pub one-verdict : {v w : Bool} {Claim : Type 0} (c : Check) → (c ≡ fine → Says v Claim) → (c ≡ fine → Says w Claim) →
+    (c then served v) ≡ (c then served w)
+one-verdict (served u) f g = ap served (says-fixed (f refl) (g refl))
+one-verdict (refused number side place) f g = refl
 
 -- A check x, as code found it, and then y: what it refuses is refused, and where it is fine y answers.
 pub stopped : {A : Type 0} {found : Checked} {x : Check} (y : Answer A) (why : Refusal) → toldCheck found ≡ x → found ≡ CheckRefused why →

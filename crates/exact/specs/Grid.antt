@@ -1,5 +1,5 @@
--- The grid (document 01): every coordinate lies from -524,288 to 524,288, ends included. And what the leaves may take for granted of a
--- list that was checked.
+-- The grid (document 01): every coordinate lies from -524,288 to 524,288, ends included. And what the innermost functions may take for
+-- granted of a list that was checked.
 use mathlib.Core.Path.{_≡_}
 use mathlib.Core.List.{List}
 use Prim.Native.Nat.{ℕ, _*_, _≤_}
@@ -8,7 +8,7 @@ use lib.ListN.{length, getD}
 use Rattle.shape.specs.Points.{pointsAt}
 use Rattle.shape.specs.Flat.{Flat}
 
--- src/grid.rt of crate `checks` names the same number.
+-- src/grid.rt of crate `checks` and src/steps.rt of crate `moving` name the same number.
 abbrev pub limit : ℕ
 limit = 524288
 

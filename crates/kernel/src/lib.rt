@@ -1,5 +1,5 @@
 // The exact tests on shapes of the grid, a list each: whether a shape is flat, and whether two shapes have a point in common. The crate is the
-// inside of the calls and offers none itself: its functions have a `requires`, since what is off the grid or flat is refused before one of
+// inside of the calls and offers none itself: its functions, but for `numbers_of`, have a `requires`, since what is off the grid or flat is refused before one of
 // them is asked (crate `checks`), once for a shape and not once for a question about it.
 mod kinds;
 mod meeting;

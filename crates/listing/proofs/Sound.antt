@@ -1,4 +1,4 @@
--- What is known of lists that the checks of a listing passed (specs/Boxes.antt). Assumes nothing.
+-- What is known of lists that the checks of a listing passed (specs/Boxes.antt of crate `boxes`). Assumes nothing.
 use mathlib.Core.Path.{_≡_, ap, _∙_}
 use mathlib.Core.List.{List, [], _∷_}
 use mathlib.Core.Logic.{_⊎_, inl, inr}

@@ -4,12 +4,14 @@ use mathlib.Core.Path.{_≡_, refl, sym, ap, _∙_}
 use mathlib.Core.Bool.{Bool}
 use mathlib.Core.List.{List}
 use Prim.Native.Nat.{ℕ}
-use Rattle.shape.specs.Verdicts.{Says}
-use Rattle.shape.proofs.VerdictLaws.{says-fixed}
-use Rattle.checks.specs.Answers.{Answer, served, refused, Check, fine, _then_}
+use Rattle.checks.specs.Answers.{Answer, served, refused, Check}
 use Rattle.checks.specs.Told.{toldCheck}
 use Rattle.checks.specs.declared.grid.Checked.{Checked}
 use Rattle.checks.specs.declared.grid.Checked.the-variants.{Fine, Refused as CheckRefused}
+use Rattle.checks.proofs.AnswerLaws.{one-verdict}
+use Rattle.predicate.specs.Told.{toldVerdict}
+use Rattle.predicate.specs.declared.answer.VerdictAnswer.{VerdictAnswer}
+use Rattle.predicate.proofs.Unique.{verdict-told}
 use Rattle.slots.specs.Slots.{Slot}
 use Rattle.slots.proofs.Clashing.{clashes-unique}
 use Rattle.keeping.specs.declared.plates.Plate.{Plate}
@@ -57,15 +59,11 @@ answer-unique r r′ m k k′ =
 
 -- Parts: on the same slots the question has one right answer, and so it has on a plate that calls made.
 pub parts-rule-unique : {S : List Slot} {p q : ℕ} {a b : Answer Bool} → PartsRule S p q a → PartsRule S p q b → a ≡ b
-parts-rule-unique {S} {p} {q} x y = x .told ∙ same (partsChecks S p q) (x .right) (y .right) ∙ sym (y .told)
-  where
-    same : {v w : Bool} {Claim : Type 0} (c : Check) → (c ≡ fine → Says v Claim) → (c ≡ fine → Says w Claim) → (c then served v) ≡ (c then served w)
-    same (served u) f g = ap served (says-fixed (f refl) (g refl))
-    same (refused number side place) f g = refl
+parts-rule-unique {S} {p} {q} x y = x .told ∙ one-verdict (partsChecks S p q) (x .right) (y .right) ∙ sym (y .told)
 
-pub parts-unique : {calls : List Call} {plate : Plate} {p q : ℕ} {a b : Answer Bool} → MadeBy calls plate →
-    PartsPromise plate p q a → PartsPromise plate p q b → a ≡ b
-parts-unique {calls} m k k′ = parts-rule-unique (k .kept calls (demand-3 m)) (k′ .kept calls (demand-3 m))
+pub parts-unique : {calls : List Call} {plate : Plate} {p q : ℕ} (r s : VerdictAnswer) → MadeBy calls plate →
+    PartsPromise plate p q (toldVerdict r) → PartsPromise plate p q (toldVerdict s) → r ≡ s
+parts-unique {calls} r s m k k′ = verdict-told r s (parts-rule-unique (k .kept calls (demand-3 m)) (k′ .kept calls (demand-3 m)))
 
 -- Count: it is read off the plate, whatever the plate is.
 pub count-unique : {plate : Plate} {m n : ℕ} → CountPromise plate m → CountPromise plate n → m ≡ n

@@ -5,9 +5,8 @@ use mathlib.Core.Bool.{Bool, true, false}
 use mathlib.Core.List.{List}
 use Prim.Native.Nat.{ℕ, zero, suc}
 use lib.IntN.{ℤ, pos, negsuc}
-use Rattle.shape.specs.Verdicts.{Says}
-use Rattle.shape.proofs.VerdictLaws.{says-fixed}
-use Rattle.checks.specs.Answers.{Answer, served, refused, Check, fine, _then_}
+use Rattle.checks.specs.Answers.{Answer, served, refused}
+use Rattle.checks.proofs.AnswerLaws.{one-verdict}
 use Rattle.predicate.specs.Rules.{valueRule, signRule, VerdictRule}
 use Rattle.checks.specs.Rules.{pairChecks}
 use Rattle.exact.specs.Vectors.{signNumber}
@@ -83,13 +82,13 @@ value-unique n numbers r s e e′ = told-fixed toldValue valueBack value-back r 
 
 -- One answer at most is right of a verdict call.
 pub rule-fixed : {n k m : ℕ} {first second : List ℤ} {a b : Answer Bool} → VerdictRule n k m first second a → VerdictRule n k m first second b → a ≡ b
-rule-fixed {n} {k} {m} {first} {second} r s = r .told ∙ same (pairChecks n k m first second) (r .right) (s .right) ∙ sym (s .told)
-  where
-    same : {v w : Bool} {Claim : Type 0} (c : Check) → (c ≡ fine → Says v Claim) → (c ≡ fine → Says w Claim) → (c then served v) ≡ (c then served w)
-    same (served u) f g = ap served (says-fixed (f refl) (g refl))
-    same (refused number side place) f g = refl
+rule-fixed {n} {k} {m} {first} {second} r s = r .told ∙ one-verdict (pairChecks n k m first second) (r .right) (s .right) ∙ sym (s .told)
+
+-- Two verdict answers that tell the same are equal.
+pub verdict-told : (r s : VerdictAnswer) → toldVerdict r ≡ toldVerdict s → r ≡ s
+verdict-told = told-fixed toldVerdict verdictBack verdict-back
 
 -- Two answers that meet the contract of a verdict call (`flat_verdict` has n = 2, k = m = 3) are equal.
 pub verdict-unique : {n k m : ℕ} {first second : List ℤ} (r s : VerdictAnswer) →
     VerdictRule n k m first second (toldVerdict r) → VerdictRule n k m first second (toldVerdict s) → r ≡ s
-verdict-unique r s e e′ = told-fixed toldVerdict verdictBack verdict-back r s (rule-fixed e e′)
+verdict-unique r s e e′ = verdict-told r s (rule-fixed e e′)

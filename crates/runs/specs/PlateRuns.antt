@@ -41,7 +41,7 @@ abbrev pub askAt : List ℕ → List ℤ → ℕ → Ask
 askAt calls numbers k =
     askOf (getD calls (3 * k) 0) (getD calls (3 * k + 1) 0) (getD calls (3 * k + 2) 0) (take 9 (drop (9 * k) numbers))
 
--- The calls that changed the plate or were refused to, before call k, the latest first; and the history that they made.
+-- The calls before call k that change the plate, refused ones included, the latest first; and the history that they made.
 abbrev pub added : Ask → List Call → List Call
 added (call c) before = c ∷ before
 added (parts p q) before = before

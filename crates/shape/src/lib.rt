@@ -7,6 +7,7 @@
 //   Flat         flat triangles and segments, and the test that tells them
 //   Verdicts     what a verdict says
 //   PlaneTest    the tests in the plane as decisions by signs
+//   SpaceTest    the tests in space as decisions by signs
 //   Bench        the table of proved bench rows
 //
 // proofs/ holds the laws, each proved once over the number of coordinates and, where it makes sense, of corners:
@@ -23,5 +24,10 @@
 //   Edges        on which side of a line a point lies; apart by a line
 //   TriangleLeaves, SegmentLeaves   each answer of the tests in the plane with its certificate
 //   PlaneTest    each test in the plane says yes exactly when the two shapes have a point in common
+//   Standings    each of the 27 sign patterns names a standing that fits its signs
+//   Planes       planes of space, and what lies strictly on one side of one
+//   Dropping     shapes in one plane, with a coordinate dropped
+//   SpaceLeaves  each answer of the tests in space with its certificate
+//   SpaceTest    each test in space says yes exactly when the two shapes have a point in common
 //   Symbols      points as symbols for the ring solver
 //   Bench        every row of the table holds

@@ -1,6 +1,6 @@
 -- What is promised of the result and the buffer is exactly this: the result is 1 where the buffer before has room for fewer
 -- than four numbers, and 0 otherwise; with 1 the buffer stays, with 0 its first four are the answer's, and all after the fourth
--- stay. Said once for every door. Assumes nothing.
+-- stay. Said once for every door but the plate's. Assumes nothing.
 use mathlib.Core.Path.{_≡_, refl, sym, ap, _∙_}
 use mathlib.Core.Bool.{Bool, true, false, cond}
 use mathlib.Core.List.{List, _++_}

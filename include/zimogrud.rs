@@ -1,0 +1,32 @@
+// Zimogrud for Rust: the calls of libdoor.a, to be included into a module of the program that is linked with it. zimogrud.h, beside
+// this file, says of each what goes in, what comes out, and what the caller owes.
+
+// A program may make some of the calls only.
+#[allow(dead_code)]
+extern "C" {
+    fn zg_turn(points: *const i32, points_len: usize, answer: *mut u64, answer_len: usize) -> u32;
+    fn zg_side(points: *const i32, points_len: usize, answer: *mut u64, answer_len: usize) -> u32;
+    fn zg_flat(a: *const i32, a_len: usize, b: *const i32, b_len: usize, answer: *mut u64, answer_len: usize) -> u32;
+    fn zg_segment(a: *const i32, a_len: usize, b: *const i32, b_len: usize, answer: *mut u64, answer_len: usize)
+        -> u32;
+    fn zg_pair(a: *const i32, a_len: usize, b: *const i32, b_len: usize, answer: *mut u64, answer_len: usize) -> u32;
+    fn zg_list(
+        a: *const i32,
+        a_len: usize,
+        b: *const i32,
+        b_len: usize,
+        buffer: *mut u32,
+        buffer_len: usize,
+        start: usize,
+        answer: *mut u64,
+        answer_len: usize,
+    ) -> u32;
+    fn zg_plate(
+        calls: *const u32,
+        calls_len: usize,
+        numbers: *const i32,
+        numbers_len: usize,
+        answers: *mut u64,
+        answers_len: usize,
+    ) -> u64;
+}
