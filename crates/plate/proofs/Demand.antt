@@ -51,10 +51,10 @@ demand-3-reach m = demand-3 m .reach
 
 -- ---- accepted changes
 -- An accepted change is told as such, and then it is the latest that stands.
-pub change-made : {calls : List Call} {p : Plate} {c : Change} {r : PlateAnswer} → MadeBy calls p → Promise p (change c) r →
-    changeChecks (slotsOf (run calls)) c ≡ fine → (toldCheck (r .told) ≡ fine) × Stands (made (run calls) c) (r .plate)
-change-made {calls} {p} {c} {r} m k accepted =
-    subst (λ (o : Answer History). Answered o p r) (change-outcome (run calls) c accepted) (k .kept calls (demand-3 m))
+pub change-made : (before : List Call) {p : Plate} {c : Change} {r : PlateAnswer} → Stands (run before) p → Promise p (change c) r →
+    changeChecks (slotsOf (run before)) c ≡ fine → (toldCheck (r .told) ≡ fine) × Stands (made (run before) c) (r .plate)
+change-made before {p} {c} {r} s k accepted =
+    subst (λ (o : Answer History). Answered o p r) (change-outcome (run before) c accepted) (k .kept before s)
 
 -- A place that was accepted: its slot is one of the 64, and was empty.
 place-fine : (S : List Slot) (s q : ℕ) (numbers : List ℤ) → changeChecks S (place s q numbers) ≡ fine →
@@ -68,21 +68,21 @@ place-fine S s q numbers e =
     empty (held p n) g = absurd (never-fine g refl)
 
 -- An accepted place appears: the slots are those before it, with the triangle in its slot.
-module _ {calls : List Call} {p : Plate} {s q : ℕ} {numbers : List ℤ} {r : PlateAnswer} (m : MadeBy calls p)
-    (k : Promise p (change (place s q numbers)) r) (accepted : changeChecks (slotsOf (run calls)) (place s q numbers) ≡ fine) where
+module _ (before : List Call) {p : Plate} {s q : ℕ} {numbers : List ℤ} {r : PlateAnswer} (stands : Stands (run before) p)
+    (k : Promise p (change (place s q numbers)) r) (accepted : changeChecks (slotsOf (run before)) (place s q numbers) ≡ fine) where
   pub place-appears :
-      (r .plate .coords ≡ flat (set (slotsOf (run calls)) s (held q numbers)))
-      × (r .plate .parts ≡ map markOf (set (slotsOf (run calls)) s (held q numbers)))
+      (r .plate .coords ≡ flat (set (slotsOf (run before)) s (held q numbers)))
+      × (r .plate .parts ≡ map markOf (set (slotsOf (run before)) s (held q numbers)))
   unfolding replay apply
-  place-appears = let stands = change-made m k accepted .1 in (stands .coords, stands .parts)
+  place-appears = let after = change-made before stands k accepted .1 in (after .coords, after .parts)
 
   -- The mark of that slot was 0 and is not 0 after it. So a plate that does nothing keeps no promise.
   pub place-marks : (getD (p .parts) s 0 ≡ 0) × (getD (r .plate .parts) s 0 ≡ suc q)
   place-marks =
-      let S = slotsOf (run calls) in
+      let S = slotsOf (run before) in
       let known = place-fine S s q numbers accepted in
-      let inside : s < length S = omega (arith, known .0, long (run calls .past)) in (
-        ap (λ (l : List ℕ). getD l s 0) (demand-3 m .parts) ∙ List·getD-map markOf S s free ∙ known .1,
+      let inside : s < length S = omega (arith, known .0, long (run before .past)) in (
+        ap (λ (l : List ℕ). getD l s 0) (stands .parts) ∙ List·getD-map markOf S s free ∙ known .1,
         ap (λ (l : List ℕ). getD l s 0) (place-appears .1) ∙ List·getD-map markOf (set S s (held q numbers)) s free
             ∙ ap markOf (getD-set-same S s (held q numbers) free inside),
       )

@@ -1,5 +1,5 @@
 -- Each reason of a plate's call is given exactly in the case that document 01's table states, with the side and the place stated there: the
--- changes, undo and the parts call, and each of them on any plate that calls made. Assumes nothing.
+-- changes, undo and the parts call, and each of them on any plate that stands for the history of some calls. Assumes nothing.
 use mathlib.Core.Path.{_≡_, refl, sym, ap, subst₃, _∙_}
 use mathlib.Core.Bool.{Bool, true, false, not, cond, true≢false}
 use mathlib.Core.List.{List, [], _∷_}
@@ -26,11 +26,11 @@ use Rattle.slots.proofs.Searching.{some-at, some-found, lowest-at, lowest-none,
 use Rattle.keeping.specs.declared.plates.Plate.{Plate}
 use Rattle.plate.specs.Rules.{slotFree, changeChecks, partsChecks}
 use Rattle.plate.specs.Histories.{History, slotsOf, Call, change, undo, made, takenBack, outcome, run}
-use Rattle.plate.specs.Plates.{Answered, Promise, PartsPromise, MadeBy}
+use Rattle.plate.specs.Plates.{Stands, Answered, Promise, PartsPromise}
 use Rattle.plate.specs.declared.calls.PlateAnswer.{PlateAnswer}
 use Rattle.plate.proofs.Placing.{placing, place-order}
 use Rattle.plate.proofs.Outcomes.{place-8, place-fine, lift-6, lift-9, lift-fine, shift-7, shift-10, shift-11, shift-fine}
-use Rattle.plate.proofs.Demand.{demand-3, undo-refused}
+use Rattle.plate.proofs.Demand.{undo-refused}
 
 -- An answer gives this number, side and place.
 abbrev pub Gives : {A : Type 0} → Answer A → (number side spot : ℕ) → Type 0
@@ -468,7 +468,7 @@ module _ (h : History) where
   pub undo-exactly : {number side spot : ℕ} → UndoCase h number side spot ↔ Gives (outcome h undo) number side spot
   undo-exactly = exactly (outcome h undo) (UndoCase h) from-undo some-undo
 
--- ---- any plate that calls made
+-- ---- any plate that stands for a history
 -- The case of a call on a history: that of its change, or of undo.
 abbrev pub CallCase : History → Call → (number side spot : ℕ) → Type 0
 CallCase h (change c) = ChangeCase (slotsOf h) c
@@ -499,22 +499,22 @@ outcome-exactly h (change c) =
 outcome-exactly h undo = undo-exactly h
 
 -- Place, lift, shift and undo: an answer that keeps the promise tells a number, a side and a place exactly in their case.
-pub plate-exactly : {calls : List Call} {p : Plate} {c : Call} {r : PlateAnswer} → MadeBy calls p → Promise p c r →
-    {number side spot : ℕ} → CallCase (run calls) c number side spot ↔ Gives (toldCheck (r .told)) number side spot
-plate-exactly {calls} {p} {c} {r} m k =
-    let o = outcome (run calls) c in
-    also-exactly (toldCheck (r .told)) o (told o (k .kept calls (demand-3 m))) (outcome-exactly (run calls) c)
+pub plate-exactly : (before : List Call) {p : Plate} {c : Call} {r : PlateAnswer} → Stands (run before) p → Promise p c r →
+    {number side spot : ℕ} → CallCase (run before) c number side spot ↔ Gives (toldCheck (r .told)) number side spot
+plate-exactly before {p} {c} {r} s k =
+    let o = outcome (run before) c in
+    also-exactly (toldCheck (r .told)) o (told o (k .kept before s)) (outcome-exactly (run before) c)
   where
     told : (o : Answer History) → Answered o p r → Gives (toldCheck (r .told)) (numberOf o) (sideOf o) (placeOf o)
     told (served h) a = gives-as (a .0)
     told (refused number side spot) a = gives-as (a .0)
 
 -- Parts: likewise.
-pub plate-parts-exactly : {calls : List Call} {plate : Plate} {p q : ℕ} {answer : Answer Bool} → MadeBy calls plate →
-    PartsPromise plate p q answer → {number side spot : ℕ} → PartsCase (slotsOf (run calls)) p q number side spot ↔ Gives answer number side spot
-plate-parts-exactly {calls} {p} {q} {answer} m k =
-    let S = slotsOf (run calls) in
-    let rule = k .kept calls (demand-3 m) in
+pub plate-parts-exactly : (before : List Call) {plate : Plate} {p q : ℕ} {answer : Answer Bool} → Stands (run before) plate →
+    PartsPromise plate p q answer → {number side spot : ℕ} → PartsCase (slotsOf (run before)) p q number side spot ↔ Gives answer number side spot
+plate-parts-exactly before {p} {q} {answer} s k =
+    let S = slotsOf (run before) in
+    let rule = k .kept before s in
     let checks = partsChecks S p q in
     let same = then-gives checks (rule .verdict) in
     let told = gives-as (rule .told) in

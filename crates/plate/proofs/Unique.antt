@@ -1,5 +1,5 @@
--- No second answer meets a promise on a plate that calls made: what a history leads to fixes the plate, and so the promises fix what is told
--- and the plate afterwards. Assumes nothing.
+-- No second answer meets a promise on a plate that stands for the history of some calls: what a history leads to fixes the plate, and so the
+-- promises fix what is told and the plate afterwards. (Every plate that calls made stands for their history: `demand-3`.) Assumes nothing.
 use mathlib.Core.Path.{_≡_, refl, sym, ap, _∙_}
 use mathlib.Core.Bool.{Bool}
 use mathlib.Core.List.{List}
@@ -17,9 +17,8 @@ use Rattle.slots.proofs.Clashing.{clashes-unique}
 use Rattle.keeping.specs.declared.plates.Plate.{Plate}
 use Rattle.plate.specs.Rules.{partsChecks}
 use Rattle.plate.specs.Histories.{History, Call, outcome, run}
-use Rattle.plate.specs.Plates.{Stands, Answered, Promise, CountPromise, PartsRule, PartsPromise, MadeBy}
+use Rattle.plate.specs.Plates.{Stands, Answered, Promise, CountPromise, PartsRule, PartsPromise}
 use Rattle.plate.specs.declared.calls.PlateAnswer.{PlateAnswer}
-use Rattle.plate.proofs.Demand.{demand-3}
 
 -- One plate stands for a history.
 pub stands-unique : {h : History} {p p′ : Plate} → Stands h p → Stands h p′ → p ≡ p′
@@ -32,10 +31,9 @@ stands-unique s t =
     λ i. record { coords = coords i; parts = parts i; journal = journal i; reach = reach i; count = count i }
 
 -- Place, lift, shift and undo: what is told, and the plate afterwards.
-pub promise-unique : {calls : List Call} {p : Plate} {c : Call} (r r′ : PlateAnswer) → MadeBy calls p → Promise p c r → Promise p c r′ →
+pub promise-unique : (before : List Call) {p : Plate} {c : Call} (r r′ : PlateAnswer) → Stands (run before) p → Promise p c r → Promise p c r′ →
     (toldCheck (r .told) ≡ toldCheck (r′ .told)) × (r .plate ≡ r′ .plate)
-promise-unique {calls} {p} {c} r r′ m k k′ =
-    let s = demand-3 m in by-outcome (outcome (run calls) c) (k .kept calls s) (k′ .kept calls s)
+promise-unique before {p} {c} r r′ s k k′ = by-outcome (outcome (run before) c) (k .kept before s) (k′ .kept before s)
   where
     by-outcome : (o : Answer History) → Answered o p r → Answered o p r′ → (toldCheck (r .told) ≡ toldCheck (r′ .told)) × (r .plate ≡ r′ .plate)
     by-outcome (served h) a b = (a .0 ∙ sym (b .0), stands-unique (a .1) (b .1))
@@ -51,19 +49,19 @@ unfolding checkedBack
 checked-back Fine = refl
 checked-back (CheckRefused why) = refl
 
-pub answer-unique : {calls : List Call} {p : Plate} {c : Call} (r r′ : PlateAnswer) → MadeBy calls p → Promise p c r → Promise p c r′ → r ≡ r′
-answer-unique r r′ m k k′ =
-    let same = promise-unique r r′ m k k′ in
+pub answer-unique : (before : List Call) {p : Plate} {c : Call} (r r′ : PlateAnswer) → Stands (run before) p → Promise p c r → Promise p c r′ → r ≡ r′
+answer-unique before r r′ s k k′ =
+    let same = promise-unique before r r′ s k k′ in
     let told = sym (checked-back (r .told)) ∙ ap checkedBack (same .0) ∙ checked-back (r′ .told) in
     λ i. record { plate = same .1 i; told = told i }
 
--- Parts: on the same slots the question has one right answer, and so it has on a plate that calls made.
+-- Parts: on the same slots the question has one right answer, and so it has on a plate that stands for a history.
 pub parts-rule-unique : {S : List Slot} {p q : ℕ} {a b : Answer Bool} → PartsRule S p q a → PartsRule S p q b → a ≡ b
 parts-rule-unique {S} {p} {q} x y = x .told ∙ one-verdict (partsChecks S p q) (x .right) (y .right) ∙ sym (y .told)
 
-pub parts-unique : {calls : List Call} {plate : Plate} {p q : ℕ} (r s : VerdictAnswer) → MadeBy calls plate →
-    PartsPromise plate p q (toldVerdict r) → PartsPromise plate p q (toldVerdict s) → r ≡ s
-parts-unique {calls} r s m k k′ = verdict-told r s (parts-rule-unique (k .kept calls (demand-3 m)) (k′ .kept calls (demand-3 m)))
+pub parts-unique : (before : List Call) {plate : Plate} {p q : ℕ} (r r′ : VerdictAnswer) → Stands (run before) plate →
+    PartsPromise plate p q (toldVerdict r) → PartsPromise plate p q (toldVerdict r′) → r ≡ r′
+parts-unique before r r′ s k k′ = verdict-told r r′ (parts-rule-unique (k .kept before s) (k′ .kept before s))
 
 -- Count: it is read off the plate, whatever the plate is.
 pub count-unique : {plate : Plate} {m n : ℕ} → CountPromise plate m → CountPromise plate n → m ≡ n
