@@ -60,6 +60,7 @@ module _ (pairs room : ℕ) where
       by-place (inr h) = absurd (never-fine e (no-room-refused h))
 
 -- ---- the length of a list
+-- A multiple of nine, and 9,216 at most.
 abbrev pub RightLength : List ℤ → Type 0
 RightLength numbers = (length numbers % 9 ≡ 0) × (length numbers ≤ 9216)
 

@@ -21,6 +21,7 @@ use Rattle.listing.specs.Rules.{startWithin, listLength, eachTriangle, i
 use Rattle.listing.proofs.ListChecks.{fine-within, fine-room}
 
 -- ---- what stands in a list
+-- The element a stands in the list: it is the first, or stands among the rest.
 pub data Among {A : Type 0} (a : A) : List A → Type 0 where
   here : {b : A} {l : List A} → a ≡ b → Among a (b ∷ l)
   there : {b : A} {l : List A} → Among a l → Among a (b ∷ l)
@@ -113,6 +114,7 @@ pairs-exactly meets n m i j = (out, back)
         (record { piece = i; least = omega arith; below = omega (arith, h .0); inside = in-row meets m i j (h .1) (h .2) })
 
 -- ---- the order
+-- The pair p comes before q: by the first index, or by the second where the first is the same.
 abbrev pub Before : Pair → Pair → Type 0
 Before p q = (p .0 < q .0) ⊎ ((p .0 ≡ q .0) × (p .1 < q .1))
 

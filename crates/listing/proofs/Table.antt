@@ -1,4 +1,5 @@
 -- Each reason of a listing is given exactly in the case that document 01's table states, with the side and the place stated there.
+-- `ListCase` is the table and `list-exactly` the theorem; between them is its proof. The words are those of Order and ListChecks.
 -- Assumes nothing.
 use mathlib.Core.Path.{_≡_, sym, ap, _∙_, subst₃}
 use mathlib.Core.List.{List}
@@ -19,6 +20,7 @@ use Rattle.listing.proofs.ListChecks.{at-most-or-above, within-fine, be
 abbrev pub Gives : {A : Type 0} → Answer A → (number side place : ℕ) → Type 0
 Gives answer number side place = (numberOf answer ≡ number) × (sideOf answer ≡ side) × (placeOf answer ≡ place)
 
+-- Of a listing of the lists a and b, into a buffer from a start on.
 module _ (a b : List ℤ) (buffer : List ℕ) (start : ℕ) where
   -- No fault of the start or of a length, and none of the input at all.
   pub record RightLengths : Type 0 where
@@ -31,15 +33,20 @@ module _ (a b : List ℤ) (buffer : List ℕ) (start : ℕ) where
     pub first : FineList a
     pub second : FineList b
 
-  -- The table: what goes with each number, side and place.
+  -- The table: what goes with each number, side and place. Each case says that no fault before it is there, and so the first wins.
   pub data ListCase : (number side place : ℕ) → Type 0 where
+    -- 4: the start is beyond the buffer's end. The place is the buffer's length.
     start-beyond : length buffer < start → ListCase 4 0 (length buffer)
+    -- 3: the first list's length is no multiple of nine or above 9,216, then the second's. The place is the length.
     first-length : start ≤ length buffer → (RightLength a → ⊥) → ListCase 3 0 (length a)
     second-length : start ≤ length buffer → RightLength a → (RightLength b → ⊥) → ListCase 3 1 (length b)
+    -- 1 or 2: the first triangle at fault in the first list, then in the second, as `Fault` says, with its place.
     first-fault : (number place : ℕ) → RightLengths → Fault a number place → ListCase number 0 place
     second-fault : (number place : ℕ) → RightLengths → FineList a → Fault b number place → ListCase number 1 place
+    -- 5: fewer than two numbers of room a pair, for all pairs that have a point in common. The place is how many there are.
     no-room : (pairs : List Pair) → FineInput → MeetingPairs a b pairs →
         length buffer < start + 2 * length pairs → ListCase 5 0 (length pairs)
+    -- 0: there is room for them; the listing is served.
     none : (pairs : List Pair) → FineInput → MeetingPairs a b pairs → start + 2 * length pairs ≤ length buffer → ListCase 0 0 0
 
   -- ---- the five checks of the input

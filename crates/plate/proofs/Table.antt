@@ -1,5 +1,6 @@
 -- Each reason of a plate's call is given exactly in the case that document 01's table states, with the side and the place stated there: the
--- changes, undo and the parts call, and each of them on any plate that stands for the history of some calls. Assumes nothing.
+-- changes, undo and the parts call, and each of them on any plate that stands for the history of some calls. `ChangeCase`, `UndoCase` and
+-- `PartsCase` are the table, `plate-exactly` and `plate-parts-exactly` at the end the theorems; between them is their proof. Assumes nothing.
 use mathlib.Core.Path.{_≡_, refl, sym, ap, subst₃, _∙_}
 use mathlib.Core.Bool.{Bool, true, false, not, cond, true≢false}
 use mathlib.Core.List.{List, [], _∷_}
@@ -73,6 +74,8 @@ pub record LowestLeaving (S : List Slot) (q : ℕ) (by : List ℤ) (i : ℕ) : T
   pub before : (s : ℕ) → s < i → (others : List ℤ) → Holds S q s others → OnGrid (moved by others)
 
 -- ---- the table: what goes with each number, side and place
+-- A place is called `spot` here, because `place` is a change. Each case says that no fault before it is there, and so the first wins.
+-- The changes, on the slots S.
 pub data ChangeCase (S : List Slot) : Change → (number side spot : ℕ) → Type 0 where
   -- Place. 6: slot above 63.
   place-slot : (s q : ℕ) (numbers : List ℤ) → 63 < s → ChangeCase S (place s q numbers) 6 0 s
@@ -108,12 +111,14 @@ pub data ChangeCase (S : List Slot) : Change → (number side spot : ℕ) → Ty
   -- Served: there is a triangle of that part, and each of them stays on the grid.
   shift-served : (q : ℕ) (dx dy dz : ℤ) → q ≤ 15 → HasPart S q → Stays S q (thrice dx dy dz) → ChangeCase S (shift q dx dy dz) 0 0 0
 
+-- Undo, after a history.
 pub data UndoCase (h : History) : (number side spot : ℕ) → Type 0 where
   -- 12: undo at reach 0.
   undo-none : h .reach ≡ 0 → UndoCase h 12 0 0
   -- Served: the reach is above 0.
   undo-served : 0 < h .reach → UndoCase h 0 0 0
 
+-- The question whether the parts p and q clash, on the slots S.
 pub data PartsCase (S : List Slot) (p q : ℕ) : (number side spot : ℕ) → Type 0 where
   -- 7: the first part above 15, then the second.
   first-above : 15 < p → PartsCase S p q 7 0 p

@@ -18,18 +18,24 @@ use Rattle.checks.proofs.AnswerLaws.{served-later}
 use Rattle.checks.proofs.GridLaws.{SomeOff, Lowest, lowest-some, lowest-one}
 use Rattle.checks.proofs.CheckLaws.{from-start, LengthCase, right, wrong, length-case, GridCase, all, not-all, grid-case}
 
+-- Of a call on n + 1 points of n coordinates, given as the list l.
 module _ (n : ℕ) (l : List ℤ) where
+  -- So many numbers it takes.
   abbrev want : ℕ
   want = suc n * n
 
   -- What the table says of an answer: its number read both ways, and the side and the place that go with it.
   pub record Table {A : Type 0} (a : Answer A) : Type 0 where
+    -- 3 exactly when the list has another length. The place is its length.
     pub three : (numberOf a ≡ 3) ↔ (length l ≡ want → ⊥)
     pub three-place : numberOf a ≡ 3 → placeOf a ≡ length l
+    -- 1 exactly when it has that length and some number is off the grid. The place is the lowest such position.
     pub one : (numberOf a ≡ 1) ↔ ((length l ≡ want) × SomeOff l)
     pub one-place : numberOf a ≡ 1 → Lowest l (placeOf a)
+    -- 0, served, exactly when it has that length and every number is on the grid.
     pub none : (numberOf a ≡ 0) ↔ Ready want l
     pub none-place : numberOf a ≡ 0 → placeOf a ≡ 0
+    -- There is one list, so the side is 0.
     pub side : sideOf a ≡ 0
 
   -- No number of a ready list is off the grid.
@@ -76,6 +82,7 @@ module _ (n : ℕ) (l : List ℤ) where
     table : Table (checked (rightLength 0 want l) (allOnGrid 0 0 l))
     table = by-cases (length-case 0 want l) (grid-case 0 0 l)
 
+  -- The table holds of the answers that the contracts of the value calls and of the sign calls ask for.
   pub value-table : Table (valueRule n l)
   value-table = table (bracket (pointsAt n (suc n) 0 l))
 

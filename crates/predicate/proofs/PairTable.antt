@@ -1,5 +1,6 @@
 -- Each reason of a verdict call is given exactly in the case that document 01's table states, with the side and the place stated
--- there: over the number of coordinates n and of corners k and m, whatever is served. Assumes nothing.
+-- there: over the number of coordinates n and of corners k and m, whatever is served. `PairCase` is the table and `pair-exactly` the
+-- theorem; between them is its proof. Assumes nothing.
 use mathlib.Core.Path.{_≡_, refl, sym, ap, _∙_, subst}
 use mathlib.Core.Bool.{Bool}
 use mathlib.Core.List.{List}
@@ -15,27 +16,36 @@ use Rattle.predicate.specs.Rules.{VerdictRule}
 use Rattle.checks.proofs.GridLaws.{Lowest}
 use Rattle.checks.proofs.CheckLaws.{from-start, LengthCase, right, wrong, length-case, GridCase, all, not-all, grid-case, OnGrid, FlatCase, flat, not-flat, flat-case, long-fine, not-long-refused, on-fine, off-refused, not-flat-fine, flat-refused}
 
--- Number, side and place are these.
+-- The first number, side and place are the second.
 abbrev pub Are : (number side place : ℕ) → (number′ side′ place′ : ℕ) → Type 0
 Are number side place number′ side′ place′ = (number ≡ number′) × (side ≡ side′) × (place ≡ place′)
 
+-- Of a verdict call on two lists: a shape of k corners and one of m, in n coordinates.
 module _ (n k m : ℕ) (first second : List ℤ) where
+  -- The two shapes.
   abbrev P : Shape
   P = pointsAt n k 0 first
 
   abbrev Q : Shape
   Q = pointsAt n m 0 second
 
-  -- The table: what goes with each number, side and place.
+  -- The table: what goes with each number, side and place. Each case says that no fault before it is there, and so the first wins.
   pub data PairCase (number side place : ℕ) : Type 0 where
+    -- 3: the first list is not of its shape's length. The place is its length.
     first-length : (length first ≡ k * n → ⊥) → Are number side place 3 0 (length first) → PairCase number side place
+    -- 3: the second list is not.
     second-length : length first ≡ k * n → (length second ≡ m * n → ⊥) → Are number side place 3 1 (length second) → PairCase number side place
+    -- 1: the first list has a number off the grid. The place is the lowest such position.
     first-off : length first ≡ k * n → length second ≡ m * n → Lowest first place → Are number side place 1 0 place → PairCase number side place
+    -- 2: the first shape is flat.
     first-flat : length first ≡ k * n → length second ≡ m * n → OnGrid first → Flat n P → Are number side place 2 0 0 → PairCase number side place
+    -- 1: the second list has a number off the grid.
     second-off : length first ≡ k * n → length second ≡ m * n → OnGrid first → (Flat n P → ⊥) →
         Lowest second place → Are number side place 1 1 place → PairCase number side place
+    -- 2: the second shape is flat.
     second-flat : length first ≡ k * n → length second ≡ m * n → OnGrid first → (Flat n P → ⊥) →
         OnGrid second → Flat n Q → Are number side place 2 1 0 → PairCase number side place
+    -- 0: nothing of this; a verdict is served.
     none : length first ≡ k * n → length second ≡ m * n → OnGrid first → (Flat n P → ⊥) →
         OnGrid second → (Flat n Q → ⊥) → Are number side place 0 0 0 → PairCase number side place
 
