@@ -4,3 +4,11 @@ home=${HOME:-$(getent passwd "$(id -u)" | cut -d: -f6)}
 rustc=$(command -v rustc) || rustc=${CARGO_HOME:-$home/.cargo}/bin/rustc
 host=$("$rustc" -vV 2>/dev/null | sed -n 's/^host: //p')
 [ -n "$host" ] || die "rustc is missing: it is neither on the PATH nor where rustup puts it, or does not run"
+
+# Whether the programs that rustc makes can be linked with the compiled library, which is x86-64 code.
+makes_x86_64() {
+    case $host in
+    x86_64-*) ;;
+    *) false ;;
+    esac
+}
