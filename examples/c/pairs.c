@@ -36,19 +36,20 @@ struct triangle {
 
 /* ---- Reading ---- */
 
-static int begins_with(const struct line *line, const char *mark, size_t mark_length)
+/* Gives whether the mark is all that is read of the line so far. */
+static int is_mark(const struct line *line, const char *mark, size_t mark_length)
 {
     return line->length == mark_length && memcmp(line->text, mark, mark_length) == 0;
 }
 
-/* Looks for a byte-order mark, once the first two and once the first three characters of the text are read. */
+/* Looks for a byte-order mark, after each of the first characters of the text. */
 static void look_for_mark(struct line *line)
 {
-    if (begins_with(line, "\xFF\xFE", 2) || begins_with(line, "\xFE\xFF", 2)) {
+    if (is_mark(line, "\xFF\xFE", 2) || is_mark(line, "\xFE\xFF", 2)) {
         fprintf(stderr, "pairs: the text is UTF-16: save it as UTF-8 or as plain text\n");
         exit(FAILED);
     }
-    if (begins_with(line, "\xEF\xBB\xBF", 3))
+    if (is_mark(line, "\xEF\xBB\xBF", 3))
         line->length = 0;
 }
 
