@@ -1,8 +1,10 @@
 //! The calls of libdoor.a that are timed. The library is linked into this program.
 
-use crate::ordinary::Answer;
+#[path = "../include/zimogrud.rs"]
+mod zimogrud;
 
-include!("../include/zimogrud.rs");
+use crate::ordinary::Answer;
+use zimogrud::{zg_list, zg_pair, zg_plate};
 
 pub fn pair(first: &[i32], second: &[i32]) -> Answer {
     let mut numbers = [0; 4];

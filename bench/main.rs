@@ -7,6 +7,8 @@
 //! 64-bit numbers. A plate that recounts all pairs at each call is timed too, to show what keeping the
 //! count gains. With --check nothing is timed: a part of the plates' inputs is compared.
 //!
+//! `bench/run` says how it is called, and which arguments go together.
+//!
 //! Exit status: 0 all agree; 1 two answers differ, or a ratio of the door is above what --at-most
 //! allows for the pairs, or with --goals above the goal of a listing or a plate; 2 bad arguments.
 
@@ -24,11 +26,11 @@ mod timing;
 use std::process::ExitCode;
 use timing::say;
 
-const USAGE: &str = "usage: bench [pairs] [listings] [plates] [--at-most RATIO] [--goals] | --check";
-
 /// What is to be timed, and how it is judged.
 #[derive(Default)]
 struct Asked {
+    /// Nothing is timed.
+    check: bool,
     pairs: bool,
     listings: bool,
     plates: bool,
@@ -39,17 +41,16 @@ struct Asked {
 }
 
 fn main() -> ExitCode {
-    let arguments: Vec<String> = std::env::args().skip(1).collect();
-    if arguments == ["--check"] {
-        return status(told(plates::compare()));
-    }
-    let asked = match read_arguments(arguments.into_iter()) {
+    let asked = match read_arguments(std::env::args().skip(1)) {
         Ok(asked) => asked,
         Err(message) => {
-            eprintln!("bench: {message}; {USAGE}");
+            eprintln!("bench: {message}");
             return ExitCode::from(2);
         }
     };
+    if asked.check {
+        return status(told(plates::compare()));
+    }
     // All are run even if one fails, and each says its last line as soon as it has it.
     let mut all_well = true;
     if asked.pairs {
@@ -88,18 +89,12 @@ fn read_arguments(mut arguments: impl Iterator<Item = String>) -> Result<Asked, 
             "plates" => asked.plates = true,
             "--at-most" => asked.at_most = Some(read_ratio(&arguments.next().unwrap_or_default())?),
             "--goals" => asked.goals = true,
+            "--check" => asked.check = true,
             _ => return Err(format!("unknown argument {name:?}")),
         }
     }
     if !asked.pairs && !asked.listings && !asked.plates {
         (asked.pairs, asked.listings, asked.plates) = (true, true, true);
-    }
-    // A limit on what is not timed would be kept whatever happens.
-    if asked.at_most.is_some() && !asked.pairs {
-        return Err("--at-most is for the pairs".into());
-    }
-    if asked.goals && !asked.listings && !asked.plates {
-        return Err("--goals is for the listings and the plates".into());
     }
     Ok(asked)
 }

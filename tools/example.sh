@@ -1,13 +1,13 @@
 # Sourced by what runs the C example, from the top of the repository, once it has defined `die` and sourced
-# tools/toolchain.sh.
+# tools/library.sh and tools/toolchain.sh.
 #
 # build_example makes the example from the library, which is x86-64 code: on x86-64 with cc and its C library; on another
 # processor, or where there is no cc, with the compiler, the linker, the C library and, if need be, the emulator of the
 # Rattle kit. run_example runs it, once it is made.
-library=target/staticlib/libdoor.a out=target/example
+out=target/example
 
 build_example() {
-    [ -f "$library" ] || die "$library is missing: make it with 'rt staticlib door'"
+    need_library
     mkdir -p "$out" || die "$out cannot be made"
     if [ "$(uname -m)" = x86_64 ] && command -v cc >/dev/null; then
         cc -std=c11 -O2 -Wall -Wextra -Wpedantic -I include examples/c/pairs.c "$library" -o "$out/pairs" ||

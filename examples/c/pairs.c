@@ -1,12 +1,13 @@
 /*
  * An example in C: reads triangles of space as text from standard input, and says of each two that follow each other
- * whether they have a point in common, or why they are refused, on one line of standard output.
+ * whether they have a point in common, or why they are refused, on one line of standard output that names their lines.
  *
  * A line of the text is a triangle: whole numbers, x, y and z of one corner after the other. Between numbers stand blanks,
  * commas, semicolons and brackets, in any mixture: (0,0,0) (4,0,0) (0,4,0). Blank lines, and lines whose first mark is #,
- * are passed over. Whatever the numbers and however many, the library says what is wrong with them. What is no triangle at
- * all is told on standard error, with its line, and ends the program: text that is no whole number, a number that does
- * not fit 32 bits, a line that is too long, a last triangle without a partner.
+ * are passed over, and so is the byte-order mark that some editors put before a text in UTF-8. Whatever the numbers and
+ * however many, the library says what is wrong with them. What is no triangle at all is told on standard error, with its line,
+ * and ends the program: text that is no whole number, a number that does not fit 32 bits, a line that is too long, a last
+ * triangle without a partner. So does a text in UTF-16.
  *
  * Exit status: 0 every pair was answered, refusals included; 2 the text was bad, or reading or writing failed.
  */
@@ -35,18 +36,37 @@ struct triangle {
 
 /* ---- Reading ---- */
 
+/* Gives whether the mark is all that is read of the line so far. */
+static int is_mark(const struct line *line, const char *mark, size_t mark_length)
+{
+    return line->length == mark_length && memcmp(line->text, mark, mark_length) == 0;
+}
+
+/* Looks for a byte-order mark, after each of the first characters of the text. */
+static void look_for_mark(struct line *line)
+{
+    if (is_mark(line, "\xFF\xFE", 2) || is_mark(line, "\xFE\xFF", 2)) {
+        fprintf(stderr, "pairs: the text is UTF-16: save it as UTF-8 or as plain text\n");
+        exit(FAILED);
+    }
+    if (is_mark(line, "\xEF\xBB\xBF", 3))
+        line->length = 0;
+}
+
 /* Gives whether there was a line. A last line may lack its end. */
 static int read_line(struct line *line)
 {
     int character;
     line->number++;
     line->length = 0;
-    while ((character = getchar()) != EOF && character != '\n') {
+    for (size_t count = 1; (character = getchar()) != EOF && character != '\n'; count++) {
         if (line->length == LONGEST_LINE) {
             fprintf(stderr, "pairs: line %lu is longer than %d characters\n", line->number, LONGEST_LINE);
             exit(FAILED);
         }
         line->text[line->length++] = (char)character;
+        if (line->number == 1 && count <= 3)
+            look_for_mark(line);
     }
     if (ferror(stdin)) {
         fprintf(stderr, "pairs: line %lu can't be read\n", line->number);
@@ -163,6 +183,7 @@ static void answer_pair(const struct triangle *first, const struct triangle *sec
     uint64_t answer[ZG_ANSWER_LENGTH];
     /* The result needs no look: it is ZG_TOLD, since the answer has its room. */
     (void)zg_pair(first->numbers, first->length, second->numbers, second->length, answer, ZG_ANSWER_LENGTH);
+    printf("lines %lu and %lu: ", first->line, second->line);
     if (answer[ZG_AT_REFUSAL] != ZG_SERVED)
         print_refusal(answer, first, second);
     else if (answer[ZG_AT_VALUE] == ZG_MEETING)

@@ -1,6 +1,6 @@
 //! The second program: puts the bench rows of document 01, many random inputs and many random stories of a plate to the
 //! library under check, finds every answer by means of its own, and compares. With `--text` it asks nothing, but writes
-//! pairs and their answers as text.
+//! pairs and their answers as text. `tests/second/run` says how it is called.
 //!
 //! Exit status: 0 no disagreement; 1 a disagreement, a failure of the calls, or a case never met;
 //! 2 bad arguments, or no way to reach the library.
@@ -26,7 +26,6 @@ use std::time::{SystemTime, UNIX_EPOCH};
 use tally::plates::PlateTally;
 use tally::{Cases, Tally};
 
-const USAGE: &str = "usage: second [--pairs N] [--stories N] [--seed S] [--tiny] [--text NAME]";
 const DEFAULT_PAIRS: u64 = 1_000_000;
 /// From this many pairs on, a case that never came up is a fault of the inputs.
 const PAIRS_THAT_MEET_ALL_CASES: u64 = 100_000;
@@ -58,7 +57,7 @@ fn main() -> ExitCode {
     let settings = match read_arguments(std::env::args().skip(1)) {
         Ok(settings) => settings,
         Err(message) => {
-            eprintln!("second: {message}; {USAGE}");
+            eprintln!("second: {message}");
             return ExitCode::from(2);
         }
     };

@@ -1,5 +1,6 @@
 //! Random pairs of triangles as the text that the C example reads, and the words that it must answer with: the same text
-//! in many spellings, with blank lines and remarks between, and the own answers told as the example tells them.
+//! in many spellings, with blank lines and remarks between and now and then a byte-order mark before it all, and the own
+//! answers told as the example tells them, with the lines of both triangles.
 
 use crate::answers::{Answer, FLAT_SHAPE, GRID, OFF_GRID, TRIANGLE_NUMBERS, WRONG_LENGTH};
 use crate::call::Call;
@@ -10,22 +11,34 @@ use std::io::{self, BufWriter, Write};
 /// The pairs and their spelling are these streams of the seed, so that no other input depends on them.
 const STREAM: u64 = 200;
 const SPELLING_STREAM: u64 = 201;
+const BYTE_ORDER_MARK: &str = "\u{feff}";
 
 /// Writes the text to NAME.txt, and the words, a line a pair, to NAME.words.
 pub fn write_pairs(name: &str, pairs: u64, seed: u64, any_pair: fn(&mut Random) -> Call) -> io::Result<()> {
     let (mut random, mut spelling) = (Random::new(seed, STREAM), Random::new(seed, SPELLING_STREAM));
     let mut text = BufWriter::new(File::create(format!("{name}.txt"))?);
     let mut words = BufWriter::new(File::create(format!("{name}.words"))?);
+    let mut lines_written = 0;
+    if spelling.once_in(2) {
+        text.write_all(BYTE_ORDER_MARK.as_bytes())?;
+    }
     for _ in 0..pairs {
         let call = any_pair(&mut random);
         let opinion = call.own_opinion();
         call.compare_own(&opinion).map_err(io::Error::other)?;
         if let Call::Pair(first, second) = &call {
             let lists: [&[i32]; 2] = [first, second];
-            for list in lists {
-                text.write_all(lines(&mut spelling, list).as_bytes())?;
+            let mut line_numbers = [0; 2];
+            for (list, line_number) in lists.iter().zip(&mut line_numbers) {
+                let lines = lines(&mut spelling, list);
+                text.write_all(lines.as_bytes())?;
+                // The last of them is the triangle's.
+                lines_written += lines.matches('\n').count();
+                *line_number = lines_written;
             }
-            writeln!(words, "{}", told(&opinion.outcome.answer, lists))?;
+            let [first_line, second_line] = line_numbers;
+            let told = told(&opinion.outcome.answer, lists);
+            writeln!(words, "lines {first_line} and {second_line}: {told}")?;
         }
     }
     text.flush()?;

@@ -1,8 +1,10 @@
 //! The door of a library that is linked into this program.
 
-use super::{Function, Lent, Question, Reply, MARGIN};
+#[path = "../../../include/zimogrud.rs"]
+mod zimogrud;
 
-include!("../../../include/zimogrud.rs");
+use super::{Function, Lent, Question, Reply, MARGIN};
+use zimogrud::{zg_flat, zg_list, zg_pair, zg_plate, zg_segment, zg_side, zg_turn};
 
 pub struct Door;
 
