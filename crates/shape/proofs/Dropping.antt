@@ -21,6 +21,7 @@ use Rattle.shape.proofs.Symbols.{values, O, point, rowE, minorE, sideE}
 use Rattle.shape.proofs.Weights.{Every, weigh-map, weigh-every, weigh-zero}
 use Rattle.shape.proofs.Apart.{functional, weigh-functional}
 use Rattle.shape.proofs.Meeting.{CommonWeights, share-is-weights, pointWith, coord-pointWith}
+use Rattle.shape.proofs.Shadows.{Within, share-seen}
 use Rattle.shape.proofs.VerdictLaws.{says-yes, says-no}
 use Rattle.shape.proofs.FlatLaws.{flat-in-space, zero-says}
 use Rattle.shape.proofs.Planes.{across, offset, plane-is-side}
@@ -59,30 +60,12 @@ module _ (n0 n1 n2 m s x y z x′ y′ z′ : ℤ)
 abbrev pub OnPlane : Point → Point → Point → Point → Type 0
 OnPlane a b c x = side a b c x ≡ pos 0
 
-kept-below : (k : ℕ) → (keptFirst k < 3) × (keptSecond k < 3)
-kept-below zero = (omega arith, omega arith)
-kept-below (suc zero) = (omega arith, omega arith)
-kept-below (suc (suc k)) = (omega arith, omega arith)
+kept-below : (k : ℕ) → Within 3 (keptFirst k ∷ keptSecond k ∷ [])
+kept-below zero = (omega arith, (omega arith, tt))
+kept-below (suc zero) = (omega arith, (omega arith, tt))
+kept-below (suc (suc k)) = (omega arith, (omega arith, tt))
 
 module _ (k : ℕ) (P Q : Shape) where
-  lowered : CommonWeights 3 P Q → CommonWeights 2 (map (without k) P) (map (without k) Q)
-  lowered h = record {
-    us = h .us;
-    ws = h .ws;
-    us-each = h .us-each ∙ sym (length-map P (without k));
-    ws-each = h .ws-each ∙ sym (length-map Q (without k));
-    same = h .same;
-    some = h .some;
-    agree = each;
-  }
-    where
-      each : (i : ℕ) → i < 2 → weigh (coord i) (h .us) (map (without k) P) ≡ weigh (coord i) (h .ws) (map (without k) Q)
-      each zero l =
-          weigh-map (coord 0) (without k) (h .us) P ∙ h .agree (keptFirst k) (kept-below k .0) ∙ sym (weigh-map (coord 0) (without k) (h .ws) Q)
-      each (suc zero) l =
-          weigh-map (coord 1) (without k) (h .us) P ∙ h .agree (keptSecond k) (kept-below k .1) ∙ sym (weigh-map (coord 1) (without k) (h .ws) Q)
-      each (suc (suc i)) l = absurd (omega arith)
-
   module _ (a b c : Point) (on-P : Every (OnPlane a b c) P) (on-Q : Every (OnPlane a b c) Q) where
     zero-on : (R : Shape) → Every (OnPlane a b c) R → Every (λ x. functional (across c a c b) (offset c a c b) x ≡ pos 0) R
     zero-on [] g = tt
@@ -155,7 +138,7 @@ module _ (k : ℕ) (P Q : Shape) where
     -- They have a point in common exactly when they have one without the coordinate k.
     pub share-dropped : (normalAt k a b c ≡ pos 0 → ⊥) → Share 2 (map (without k) P) (map (without k) Q) ↔ Share 3 P Q
     share-dropped not-zero =
-        (λ h. share-is-weights .1 (lifted (share-is-weights .0 h) not-zero), λ h. share-is-weights .1 (lowered (share-is-weights .0 h)))
+        (λ h. share-is-weights .1 (lifted (share-is-weights .0 h) not-zero), share-seen (keptFirst k ∷ keptSecond k ∷ []) (kept-below k))
 
 -- ---- the coordinate to drop
 module _ (a b c : Point) where

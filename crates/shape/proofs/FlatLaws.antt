@@ -14,7 +14,7 @@ use Rattle.shape.specs.Points.{Point, Shape, coord}
 use Rattle.shape.specs.Signs.{turn, turnIn}
 use Rattle.shape.specs.Flat.{OnLine, Flat, isZero, allBelow, isFlat}
 use Rattle.shape.specs.Verdicts.{Says}
-use Rattle.shape.proofs.VerdictLaws.{says-yes, says-no, says-same, says-fixed}
+use Rattle.shape.proofs.VerdictLaws.{says-yes, says-no, says-both, says-same, says-fixed}
 
 -- A coordinate against itself shows no turn; two coordinates that trade places turn the sign.
 pub turnIn-same : (i : ℕ) (a b c : Point) → turnIn i i a b c ≡ pos 0
@@ -27,7 +27,7 @@ turnIn-trade i j a b c =
     ((coord j a -ℤ coord j c) *ℤ (coord i b -ℤ coord i c))
 
 -- Two numbers compare.
-compared : (i j : ℕ) → (i < j) ⊎ ((i ≡ j) ⊎ (j < i))
+pub compared : (i j : ℕ) → (i < j) ⊎ ((i ≡ j) ⊎ (j < i))
 compared zero zero = inr (inl refl)
 compared zero (suc j) = inl (omega arith)
 compared (suc i) zero = inr (inr (omega arith))
@@ -82,7 +82,8 @@ zero-says (negsuc n) = says-no (λ e. let y : _≡_ {A = ℕ} 0 1 = cc in omega 
 -- A test of each i below n that says whether F i holds: together they say whether it holds of all.
 pub below-says : (n : ℕ) (F : ℕ → Type 0) (test : ℕ → Bool) → ((i : ℕ) → Says (test i) (F i)) → Says (allBelow n test) ((i : ℕ) → i < n → F i)
 below-says zero F test says = says-yes (λ i l. absurd (omega arith))
-below-says (suc n) F test says = both (test n) (says n) (allBelow n test) (below-says n F test says)
+below-says (suc n) F test says =
+    says-same ((λ h. last-or-before (h .0) (h .1)), (λ h. (h n (omega arith), λ i l. h i (omega arith)))) (says-both (says n) (below-says n F test says))
   where
     last-or-before : F n → ((i : ℕ) → i < n → F i) → (i : ℕ) → i < suc n → F i
     last-or-before last before i l = by-order (compared i n)
@@ -91,11 +92,6 @@ below-says (suc n) F test says = both (test n) (says n) (allBelow n test) (below
         by-order (inl h) = before i h
         by-order (inr (inl e)) = subst F (sym e) last
         by-order (inr (inr h)) = absurd (omega arith)
-
-    both : (v : Bool) → Says v (F n) → (w : Bool) → Says w ((i : ℕ) → i < n → F i) → Says (cond v w false) ((i : ℕ) → i < suc n → F i)
-    both true s true t = says-yes (last-or-before (s .yes refl) (t .yes refl))
-    both true s false t = says-no (λ all. t .no refl (λ i l. all i (omega arith)))
-    both false s w t = says-no (λ all. s .no refl (all n (omega arith)))
 
 -- The test tells the flat shapes.
 pub is-flat : (n : ℕ) (P : Shape) → Says (isFlat n P) (Flat n P)

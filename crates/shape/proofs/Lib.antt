@@ -3,6 +3,9 @@ pub mod Weights
 pub mod Trading
 pub mod Apart
 pub mod Meeting
+pub mod Mixing
+pub mod Seeking
+pub mod Shadows
 pub mod Symbols
 pub mod SignLaws
 pub mod Dependence
@@ -10,13 +13,16 @@ pub mod Witnesses
 pub mod VerdictLaws
 pub mod FlatLaws
 pub mod Lines
+pub mod Thin
 pub mod Edges
 pub mod TriangleLeaves
 pub mod SegmentLeaves
 pub mod PlaneTest
 pub mod Standings
 pub mod Planes
+pub mod Segments
 pub mod Dropping
 pub mod SpaceLeaves
 pub mod SpaceTest
+pub mod WireTest
 pub mod Bench

@@ -1,12 +1,11 @@
 -- What specs/Flat.antt says by turns is what document 01 says in words: a triangle is flat exactly where one of its corners is
 -- a point of the segment between the other two. And: it is flat in any order of its corners, and wherever it is moved.
 -- Assumes nothing.
-use mathlib.Core.Path.{_≡_, refl, sym, _∙_, ap, subst}
+use mathlib.Core.Path.{_≡_, refl, sym, _∙_, ap}
 use mathlib.Core.List.{List, [], _∷_}
-use mathlib.Core.Logic.{_⊎_, inl, inr, ⊎-elim, _↔_}
-use Prim.Native.Nat.{ℕ, zero, suc, _≤_, _<_}
+use mathlib.Core.Logic.{_⊎_, inl, inr, _↔_}
+use Prim.Native.Nat.{ℕ, _≤_, _<_}
 use native.Mathlib.Omega.{arith}
-use native.Mathlib.Nat.{eq-or-lt-of-le}
 use lib.ListN.{length}
 use lib.IntN.{ℤ, pos, negsuc, negℤ, _+ℤ_, _-ℤ_, _*ℤ_}
 use lib.Signed.{_≤ℤ_, _<ℤ_}
@@ -23,9 +22,10 @@ use Rattle.shape.proofs.Trading.{coord-moved, share-among}
 use Rattle.shape.proofs.Meeting.{CommonWeights, weights-of-share, meet}
 use Rattle.shape.proofs.Symbols.{values, O, point, turnE}
 use Rattle.shape.proofs.SignLaws.{neighbours-trade, cycle, bracket-moved}
+use Rattle.shape.proofs.Seeking.{Found, seek}
 
 -- A point as it is seen in two of its coordinates: the turn that three points show there is a turn in the plane.
-abbrev seenIn : ℕ → ℕ → Point → Point
+abbrev pub seenIn : ℕ → ℕ → Point → Point
 seenIn i j a = coord i a ∷ coord j a ∷ []
 
 -- ---- in any order of the points
@@ -99,7 +99,7 @@ between-on-line {n} a b c h = by-weights (found .us) (found .ws) (found .us-each
         (0<-pos (total (u ∷ [])) some) (ap pos same) (agree i li) (agree j lj)
 
 -- Three points of a line whose coordinates k rise: the second is between the others, with differences in k as weights.
-rising : {n : ℕ} (p q r : Point) → OnLine n p q r → (k : ℕ) → k < n →
+pub rising : {n : ℕ} (p q r : Point) → OnLine n p q r → (k : ℕ) → k < n →
     coord k p ≤ℤ coord k q → coord k q ≤ℤ coord k r → coord k p <ℤ coord k r → Share n (q ∷ []) (p ∷ r ∷ [])
 rising p q r h k l pq qr pr =
     meet ((coord k r -ℤ coord k p) ∷ []) ((coord k r -ℤ coord k q) ∷ (coord k q -ℤ coord k p) ∷ []) refl refl
@@ -113,7 +113,7 @@ rising p q r h k l pq qr pr =
     (num 1) (eqn 0 (lit (negsuc 0))) tt tt tt refl (h k i l li))
 
 -- The ends of a segment trade places.
-ends-trade : {n : ℕ} {p : Point} (q r : Point) → Share n (p ∷ []) (q ∷ r ∷ []) → Share n (p ∷ []) (r ∷ q ∷ [])
+pub ends-trade : {n : ℕ} {p : Point} (q r : Point) → Share n (p ∷ []) (q ∷ r ∷ []) → Share n (p ∷ []) (r ∷ q ∷ [])
 ends-trade q r = share-among (inl refl, tt) (inr (inl refl), (inl refl, tt))
 
 -- The first two points trade places.
@@ -132,41 +132,35 @@ lower-in {n} a b c h k l ab = by-place (lt-or-ge (coord k a) (coord k c)) (lt-or
     by-place (inl ac) (inr bc) = second (ends-trade a c (rising a b c h k l (le-of-lt ab) bc ac))
 
 -- Two points agree in n coordinates, or one is below the other in some.
-data Placed (n : ℕ) (a b : Point) : Type 0 where
-  agree : Equal n a b → Placed n a b
-  lower : (k : ℕ) → k < n → coord k a <ℤ coord k b → Placed n a b
-  upper : (k : ℕ) → k < n → coord k b <ℤ coord k a → Placed n a b
+abbrev pub Differ : Point → Point → ℕ → Type 0
+Differ a b k = (coord k a <ℤ coord k b) ⊎ (coord k b <ℤ coord k a)
 
-placed : (n : ℕ) (a b : Point) → Placed n a b
-placed zero a b = agree (λ i l. absurd (omega arith))
-placed (suc n) a b = by-last (lt-or-ge (coord n a) (coord n b)) (lt-or-ge (coord n b) (coord n a)) (placed n a b)
+pub differ-or-equal : (n : ℕ) (a b : Point) → Found n (Differ a b) ⊎ Equal n a b
+differ-or-equal n a b = seek n (λ k l. compare k (lt-or-ge (coord k a) (coord k b)) (lt-or-ge (coord k b) (coord k a)))
   where
-    with-last : Equal n a b → coord n a ≡ coord n b → Equal (suc n) a b
-    with-last e last i l = ⊎-elim (λ (p : i ≡ n). subst (λ (k : ℕ). coord k a ≡ coord k b) (sym p) last) (e i) (eq-or-lt-of-le (omega arith))
+    compare : (k : ℕ) → (coord k a <ℤ coord k b) ⊎ (coord k b ≤ℤ coord k a) → (coord k b <ℤ coord k a) ⊎ (coord k a ≤ℤ coord k b) →
+        Differ a b k ⊎ (coord k a ≡ coord k b)
+    compare k (inl below) other = inl (inl below)
+    compare k (inr past) (inl above) = inl (inr above)
+    compare k (inr past) (inr before) = inr (le-antisym before past)
 
-    by-last : (coord n a <ℤ coord n b) ⊎ (coord n b ≤ℤ coord n a) → (coord n b <ℤ coord n a) ⊎ (coord n a ≤ℤ coord n b) → Placed n a b → Placed (suc n) a b
-    by-last (inl h) g rest = lower n (omega arith) h
-    by-last (inr h) (inl g) rest = upper n (omega arith) g
-    by-last (inr h) (inr g) (lower k l p) = lower k (omega arith) p
-    by-last (inr h) (inr g) (upper k l p) = upper k (omega arith) p
-    by-last (inr h) (inr g) (agree e) = agree (with-last e (le-antisym g h))
-
--- A point that is equal to an end of a segment is a point of it.
-end-between : {n : ℕ} (a b c : Point) → Equal n a b → Share n (a ∷ []) (b ∷ c ∷ [])
-end-between a b c e =
-    meet (pos 1 ∷ []) (pos 1 ∷ pos 0 ∷ []) refl refl (0≤-pos 1, tt) (0≤-pos 1, (0≤-pos 0, tt)) refl (0<-pos 1 (omega arith))
-    (λ i l.
-    ap (λ (z : ℤ). pos 1 *ℤ z +ℤ pos 0) (e i l)
-    ∙ solve 2 (λ b c. lit (pos 1) ⊠ b ⊞ O ≗ lit (pos 1) ⊠ b ⊞ (lit (pos 0) ⊠ c ⊞ O)) (tt, refl) (coord i b) (coord i c))
+-- Points with equal coordinates are one point.
+pub equal-points : {n : ℕ} (a b : Point) → Equal n a b → Share n (a ∷ []) (b ∷ [])
+equal-points a b e =
+    meet (pos 1 ∷ []) (pos 1 ∷ []) refl refl (0≤-pos 1, tt) (0≤-pos 1, tt) refl (0<-pos 1 (omega arith))
+    (λ i l. ap (λ (z : ℤ). pos 1 *ℤ z +ℤ pos 0) (e i l))
 
 -- A triangle is flat exactly where one of its corners is a point of the segment between the other two.
 pub flat-is-between : {n : ℕ} (a b c : Point) → Flat n (a ∷ b ∷ c ∷ []) ↔ OneBetween n a b c
-flat-is-between {n} a b c = (λ h. find h (placed n a b), back)
+flat-is-between {n} a b c = (λ h. find h (differ-or-equal n a b), back)
   where
-    find : OnLine n a b c → Placed n a b → OneBetween n a b c
-    find h (agree e) = first (end-between a b c e)
-    find h (lower k l p) = lower-in a b c h k l p
-    find h (upper k l p) = one-trade a b c (lower-in b a c (on-line-trade b c a (on-line-cycle a b c h)) k l p)
+    by-order : OnLine n a b c → (k : ℕ) → k < n → Differ a b k → OneBetween n a b c
+    by-order h k l (inl below) = lower-in a b c h k l below
+    by-order h k l (inr above) = one-trade a b c (lower-in b a c (on-line-trade b c a (on-line-cycle a b c h)) k l above)
+
+    find : OnLine n a b c → Found n (Differ a b) ⊎ Equal n a b → OneBetween n a b c
+    find h (inl found) = by-order h (found .at) (found .below) (found .has)
+    find h (inr e) = first (share-among (inl refl, tt) (inl refl, tt) (equal-points a b e))
 
     back : OneBetween n a b c → OnLine n a b c
     back (first h) = between-on-line a b c h

@@ -138,7 +138,7 @@ coord-moved (suc i) (d ∷ ds) (x ∷ xs) = coord-moved i ds xs
 abbrev pub scaled : ℤ → Point → Point
 scaled c d = map (λ z. c *ℤ z) d
 
-coord-scaled : (c : ℤ) (i : ℕ) (d : Point) → coord i (scaled c d) ≡ c *ℤ coord i d
+pub coord-scaled : (c : ℤ) (i : ℕ) (d : Point) → coord i (scaled c d) ≡ c *ℤ coord i d
 coord-scaled c i [] = sym (*ℤ-zero c)
 coord-scaled c zero (d ∷ ds) = refl
 coord-scaled c (suc i) (d ∷ ds) = coord-scaled c i ds

@@ -6,4 +6,5 @@ pub mod Flat
 pub mod Verdicts
 pub mod PlaneTest
 pub mod SpaceTest
+pub mod WireTest
 pub mod Bench
