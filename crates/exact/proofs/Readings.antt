@@ -8,7 +8,7 @@ use Prim.Native.Nat.{ℕ, zero, suc, _+_, _*_, _^_, _≤_, _<_}
 use native.Mathlib.Omega.{arith}
 use borrow.Author.Tests.{eqb-true, eqb-false}
 use lib.Dec.{T, ltb, eqb}
-use lib.IntN.{ℤ, pos, natAbs, _+ℤ_, _-ℤ_, _*ℤ_, +ℤ-invr}
+use lib.IntN.{ℤ, pos, natAbs, _+ℤ_, _-ℤ_, _*ℤ_}
 use lib.ListN.{length, getD, drop-of-length-le}
 use lib.Seq.{sets, sets-eq}
 use lib.Signed.{mag}
@@ -16,7 +16,6 @@ use mir.Syntax.{w64}
 use mir.Val.{toZ, ofZ, hbits}
 use Rattle.algebra.proofs.Solver.{ring}
 use Rattle.algebra.proofs.Expression.{_⊞_, _⊠_}
-use Rattle.algebra.proofs.Order.{eq-of-sub}
 use Rattle.algebra.proofs.Machine.{Reads, exact, held, returned, size, sum, difference, product}
 use Rattle.shape.specs.Points.{Point, coord}
 use Rattle.shape.specs.Signs.{turn, side, row, minor, determinant}
@@ -171,17 +170,13 @@ module _ {r z : ℤ} (fits : mag r < 2 ^ hbits w64) (e : r ≡ z) where
   pub zero-kept-test : eqb (ofZ w64 r) 0 ≡ isZero z
   zero-kept-test = by-bits (ofZ w64 r) 0 (isZero z) (λ h. zero-test (zero-kept h)) (λ h. not-zero-test z (not-zero-kept h))
 
--- Coordinate i of two points.
-module _ {a b : Point} (s : Sized limit a) (r : Sized limit b) (i : ℕ) where
-  abbrev equal : Bool
-  equal = isZero (coord i b -ℤ coord i a)
+-- Coordinate i of a vector, against 0.
+module _ {n : ℕ} {a : Point} (t : T (ltb n (2 ^ hbits w64))) (s : Sized n a) (i : ℕ) where
+  pub zero-coordinate : ofZ w64 (coord i a) ≡ 0 → isZero (coord i a) ≡ true
+  zero-coordinate h = zero-test (sym (coordinate t s i .is) ∙ ap (toZ w64) h)
 
-  pub same-kept : ofZ w64 (coord i a) ≡ ofZ w64 (coord i b) → equal ≡ true
-  same-kept h =
-      zero-test (ap (λ (z : ℤ). coord i b -ℤ z) (sym (coordinate tt s i .is) ∙ ap (toZ w64) h ∙ coordinate tt r i .is) ∙ +ℤ-invr (coord i b))
+  pub not-zero-coordinate : (ofZ w64 (coord i a) ≡ 0 → ⊥) → isZero (coord i a) ≡ false
+  not-zero-coordinate h = not-zero-test (coord i a) (λ e. h (ap (ofZ w64) e))
 
-  pub not-same-kept : (ofZ w64 (coord i a) ≡ ofZ w64 (coord i b) → ⊥) → equal ≡ false
-  not-same-kept h = not-zero-test (coord i b -ℤ coord i a) (λ e. h (ap (ofZ w64) (eq-of-sub (coord i a) (coord i b) e)))
-
-  pub same-kept-test : eqb (ofZ w64 (coord i a)) (ofZ w64 (coord i b)) ≡ equal
-  same-kept-test = by-bits (ofZ w64 (coord i a)) (ofZ w64 (coord i b)) equal same-kept not-same-kept
+  pub zero-coordinate-test : eqb (ofZ w64 (coord i a)) 0 ≡ isZero (coord i a)
+  zero-coordinate-test = by-bits (ofZ w64 (coord i a)) 0 (isZero (coord i a)) zero-coordinate not-zero-coordinate

@@ -5,9 +5,9 @@ use exact::space_point;
 use plane::plane_triangle;
 use plane::planes_meet;
 use space::normal_of;
-use space::segment_meets_space;
 use space::space_triangle;
-use space::spaces_meet;
+use wires::any_triangles_meet;
+use wires::segment_meets_any;
 ghost use mathlib.Core.Path.{_≡_};
 ghost use lib.ListN.{length};
 ghost use Rattle.exact.specs.Grid.{Ready, Passed};
@@ -22,27 +22,28 @@ pub fn flat_triangles_meet(first: &[i32], second: &[i32]) -> bool
     planes_meet(plane_triangle(first), plane_triangle(second))
 }
 
-// A segment and a triangle in space, six numbers and nine.
+// A segment and a triangle in space, six numbers and nine, which may be flat.
 pub fn segment_meets_triangle(first: &[i32], second: &[i32]) -> bool
-    requires { ⌜ Passed 3 2 (now first) × Passed 3 3 (now second) ⌝ }
+    requires { ⌜ Ready 6 (now first) × Ready 9 (now second) ⌝ }
     ensures { λ r. ⌜ Judges 3 2 3 (now (first .entry)) (now (second .entry)) r ⌝ }
 {
-    segment_meets_space(
+    let t = space_triangle(second);
+    segment_meets_any(
         space_point(first, 0),
         space_point(first, 3),
-        space_triangle(second),
+        t,
+        normal_of(t),
     )
 }
 
-// Two triangles in space, nine numbers each, which need only be on the grid: the verdict is promised where neither is flat, so that those who
-// know that by what they keep don't have to ask for it again.
+// Two triangles in space, nine numbers each, which may be flat.
 pub fn triangles_meet(first: &[i32], second: &[i32]) -> bool
     requires { ⌜ Ready 9 (now first) × Ready 9 (now second) ⌝ }
-    ensures { λ r. ⌜ (Passed 3 3 (now (first .entry)) → Passed 3 3 (now (second .entry)) → Judges 3 3 3 (now (first .entry)) (now (second .entry)) r) ⌝ }
+    ensures { λ r. ⌜ Judges 3 3 3 (now (first .entry)) (now (second .entry)) r ⌝ }
 {
     let t = space_triangle(first);
     let u = space_triangle(second);
-    spaces_meet(t, normal_of(t), u, normal_of(u))
+    any_triangles_meet(t, normal_of(t), u, normal_of(u))
 }
 
 // The normal that fills a list of three numbers.
@@ -73,10 +74,10 @@ pub fn put_normal(normal: &mut [i64], corners: &[i32])
 
 // Two triangles whose normals, m and n, are known.
 pub fn known_triangles_meet(first: &[i32], m: &[i64], second: &[i32], n: &[i64]) -> bool
-    requires { ⌜ Passed 3 3 (now first) × Passed 3 3 (now second) × (now m ≡ normalIn (now first)) × (now n ≡ normalIn (now second)) ⌝ }
+    requires { ⌜ Ready 9 (now first) × Ready 9 (now second) × (now m ≡ normalIn (now first)) × (now n ≡ normalIn (now second)) ⌝ }
     ensures { λ r. ⌜ Judges 3 3 3 (now (first .entry)) (now (second .entry)) r ⌝ }
 {
-    spaces_meet(
+    any_triangles_meet(
         space_triangle(first),
         normal_in(m),
         space_triangle(second),

@@ -8,3 +8,4 @@ pub use meeting::normal_of;
 pub use meeting::segment_meets_space;
 pub use meeting::space_triangle;
 pub use meeting::spaces_meet;
+pub use meeting::without_coordinate;

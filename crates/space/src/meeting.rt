@@ -108,7 +108,7 @@ fn placed(t: SpaceTriangle, turns: u32, swap: bool) -> SpaceTriangle
 // ---- one plane
 
 // A point without the coordinate k: the two that are kept, in cyclic order.
-fn without_coordinate(k: u32, a: SpacePoint) -> PlanePoint
+pub fn without_coordinate(k: u32, a: SpacePoint) -> PlanePoint
     requires { ⌜ Sized limit (spatial a) ⌝ }
     ensures { λ r. ⌜ planar r ≡ without k (spatial a) ⌝ }
 {

@@ -1,42 +1,51 @@
--- `kernel::meeting::segment_meets_triangle` meets its contract: the test is right on shapes that are not flat. Assumes nothing.
-use mathlib.Core.Path.{sym, subst, _∙_}
-use mathlib.Core.Bool.{Bool}
-use native.Mathlib.Omega.{arith}
-use Rattle.shape.specs.SpaceTest.{segmentSpaceTest}
-use Rattle.shape.proofs.SpaceTest.{segment-space-test}
-use Rattle.kernel.specs.Meeting.{Judges}
+-- `kernel::meeting::segment_meets_triangle` meets its contract: the test is right on all segments and triangles. Assumes nothing.
+use borrow.Author.Needs.{needs}
 use Rattle.exact.proofs.GridLaws.{sized-point}
 use Rattle.space.proofs.SpaceLaws.{sized-triangle}
+use Rattle.kernel.proofs.Judging.{segment-judged}
 use Rattle.kernel.proofs.meeting.segment_meets_triangle.Statement.{statement}
 use Rattle.kernel.proofs.meeting.segment_meets_triangle.Tie as tie
 
+space-triangle-requires : tie.Need-space-triangle-requires
+space-triangle-requires c κs = search needs
+
 space-point-requires : tie.Need-space-point-requires
-space-point-requires c κs = omega (arith, c .pre .0 .ready .long)
+space-point-requires c κs = search needs
 
 space-point-requires-2 : tie.Need-space-point-requires-2
-space-point-requires-2 c κs = omega (arith, c .before .pre .0 .ready .long)
+space-point-requires-2 c κs = search needs
 
-space-triangle-requires : tie.Need-space-triangle-requires
-space-triangle-requires c κs = c .before .before .pre .1 .ready
+normal-of-requires : tie.Need-normal-of-requires
+normal-of-requires c κs =
+    let t = c .before .before in
+    sized-triangle (t .before .pre .1) (t .space-triangle .ensures)
 
-segment-meets-space-requires : tie.Need-segment-meets-space-requires
-segment-meets-space-requires c κs =
-    let p = c .before .before .before in (
-      sized-point (p .pre .0 .ready) 3 0 (c .before .before .space-point .ensures),
-      sized-point (p .pre .0 .ready) 3 3 (c .before .space-point2 .ensures),
-      sized-triangle (p .pre .1 .ready) (c .space-triangle .ensures),
+segment-meets-any-requires : tie.Need-segment-meets-any-requires
+segment-meets-any-requires c κs =
+    let q = c .before in
+    let t = q .before .before in
+    let ready = t .before .pre in (
+      sized-point (ready .0) 3 0 (q .before .space-point .ensures),
+      sized-point (ready .0) 3 3 (q .space-point2 .ensures),
+      sized-triangle (ready .1) (t .space-triangle .ensures),
+      c .normal-of .ensures,
     )
 
 returns : tie.Need-returns
 returns c =
-    let p = c .before .before .before .before in
-    let x = c .before .before .before .space-point .ensures in
-    let y = c .before .before .space-point2 .ensures in
-    let t = c .before .space-triangle .ensures in
-    subst (λ (v : Bool). Judges 3 2 3 (p .args .first .now) (p .args .second .now) v)
-    (sym (c .segment-meets-space .ensures ∙ (λ i. segmentSpaceTest (x i) (y i) (t .at-p i) (t .at-q i) (t .at-r i))))
-    (segment-space-test _ _ _ _ _ (p .pre .1 .not-flat))
+    let q = c .before .before in
+    let p = q .before in
+    let t = p .before in
+    let a = t .before .args in
+    segment-judged (a .first .now) (a .second .now) (p .space-point .ensures) (q .space-point2 .ensures) (t .space-triangle .ensures) (c .segment-meets-any .ensures)
 
 pub segment-meets-triangle-spec : {M : Type 1} → statement M
 segment-meets-triangle-spec =
-    tie.close (tie.spec space-point-requires space-point-requires-2 space-triangle-requires segment-meets-space-requires returns)
+    tie.close
+    (tie.spec
+    space-triangle-requires
+    space-point-requires
+    space-point-requires-2
+    normal-of-requires
+    segment-meets-any-requires
+    returns)

@@ -1,4 +1,4 @@
--- `kernel::meeting::triangles_meet` meets its contract: the test is right on triangles that are not flat. Assumes nothing.
+-- `kernel::meeting::triangles_meet` meets its contract: the test is right on all triangles. Assumes nothing.
 use Rattle.space.proofs.SpaceLaws.{sized-triangle}
 use Rattle.kernel.proofs.Judging.{judged}
 use Rattle.kernel.proofs.meeting.triangles_meet.Statement.{statement}
@@ -16,8 +16,8 @@ normal-of-requires c κs = sized-triangle (c .before .before .pre .0) (c .before
 normal-of-requires-2 : tie.Need-normal-of-requires-2
 normal-of-requires-2 c κs = sized-triangle (c .before .before .before .pre .1) (c .before .space-triangle2 .ensures)
 
-spaces-meet-requires : tie.Need-spaces-meet-requires
-spaces-meet-requires c κs =
+any-triangles-meet-requires : tie.Need-any-triangles-meet-requires
+any-triangles-meet-requires c κs =
     let q = c .before .before in
     let p = q .before .before in (
       sized-triangle (p .pre .0) (q .before .space-triangle .ensures),
@@ -32,7 +32,7 @@ returns c =
     let p = q .before .before in
     let t = q .before .space-triangle .ensures in
     let u = q .space-triangle2 .ensures in
-    λ first second. judged first second t u (c .spaces-meet .ensures)
+    judged (p .args .first .now) (p .args .second .now) t u (c .any-triangles-meet .ensures)
 
 pub triangles-meet-spec : {M : Type 1} → statement M
 triangles-meet-spec =
@@ -42,5 +42,5 @@ triangles-meet-spec =
     space-triangle-requires-2
     normal-of-requires
     normal-of-requires-2
-    spaces-meet-requires
+    any-triangles-meet-requires
     returns)

@@ -1,0 +1,46 @@
+-- `wires::triangles::some_edge_meets` meets its contract: edge by edge. Assumes nothing.
+use mathlib.Core.Path.{refl}
+use Rattle.exact.proofs.Branches.{if-taken, if-left}
+use Rattle.wires.proofs.triangles.some_edge_meets.Statement.{statement}
+use Rattle.wires.proofs.triangles.some_edge_meets.Tie as tie
+
+segment-meets-any-requires : tie.Need-segment-meets-any-requires
+segment-meets-any-requires c κs =
+    let p = c .pre in
+    (p .0 .at-p, p .0 .at-q, p .1, p .2)
+
+returns : tie.Need-returns
+returns c = if-taken _ _ (c .before .segment-meets-any .ensures) (c .if1 .taken) refl
+
+segment-meets-any-requires-2 : tie.Need-segment-meets-any-requires-2
+segment-meets-any-requires-2 c κs =
+    let p = c .before .before .pre in
+    (p .0 .at-q, p .0 .at-r, p .1, p .2)
+
+returns-2 : tie.Need-returns-2
+returns-2 c =
+    let t1 = c .before .before in
+    if-left _ _ (t1 .before .segment-meets-any .ensures) (t1 .if1 .left) (if-taken _ _ (c .before .segment-meets-any2 .ensures) (c .if2 .taken) refl)
+
+segment-meets-any-requires-3 : tie.Need-segment-meets-any-requires-3
+segment-meets-any-requires-3 c κs =
+    let p = c .before .before .before .before .pre in
+    (p .0 .at-r, p .0 .at-p, p .1, p .2)
+
+returns-3 : tie.Need-returns-3
+returns-3 c =
+    let t2 = c .before in
+    let t1 = t2 .before .before in
+    if-left _ _ (t1 .before .segment-meets-any .ensures) (t1 .if1 .left)
+    (if-left _ _ (t2 .before .segment-meets-any2 .ensures) (t2 .if2 .left) (c .segment-meets-any3 .ensures))
+
+pub some-edge-meets-spec : {M : Type 1} → statement M
+some-edge-meets-spec =
+    tie.close
+    (tie.spec
+    segment-meets-any-requires
+    returns
+    segment-meets-any-requires-2
+    returns-2
+    segment-meets-any-requires-3
+    returns-3)
