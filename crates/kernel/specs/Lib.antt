@@ -1,3 +1,3 @@
--- The kinds of shapes (Kinds), and what the tests on lists promise (Meeting).
+-- The triangles that may be asked whether they are flat (Kinds), and what the tests on lists promise (Meeting).
 pub mod Kinds
 pub mod Meeting

@@ -1,12 +1,11 @@
-// The exact tests on shapes of the grid, a list each: whether a shape is flat, and whether two shapes have a point in common. The crate is the
-// inside of the calls and offers none itself: its functions, but for `numbers_of`, have a `requires`, since what is off the grid or flat is refused before one of
-// them is asked (crate `checks`), once for a shape and not once for a question about it.
+// The exact tests on shapes of the grid, a list each: whether a triangle is flat, and whether two shapes have a point in common. The crate is the
+// inside of the calls and offers none itself: its functions have a `requires`, since what a call refuses is refused before one of them is
+// asked (crate `checks`), once for a shape and not once for a question about it.
 mod kinds;
 mod meeting;
 
 pub use kinds::Kind;
 pub use kinds::is_flat;
-pub use kinds::numbers_of;
 pub use meeting::flat_triangles_meet;
 pub use meeting::known_triangles_meet;
 pub use meeting::put_normal;

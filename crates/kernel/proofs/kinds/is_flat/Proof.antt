@@ -2,9 +2,8 @@
 use borrow.Author.Needs.{needs}
 use mathlib.Core.Path.{_≡_, refl, sym, ap, subst, _∙_}
 use mathlib.Core.Bool.{Bool}
-use mathlib.Core.List.{List, [], _∷_}
-use Prim.Native.Nat.{ℕ}
-use native.Mathlib.Omega.{arith}
+use mathlib.Core.List.{List}
+use Prim.Native.Nat.{ℕ, _*_}
 use lib.Dec.{eqb}
 use lib.IntN.{ℤ}
 use Rattle.shape.specs.Points.{pointAt, pointsAt}
@@ -14,7 +13,7 @@ use Rattle.shape.proofs.FlatLaws.{is-flat, is-flat-in-plane}
 use Rattle.shape.proofs.VerdictLaws.{says-fixed}
 use Rattle.shape.proofs.Dropping.{axis-says}
 use Rattle.exact.specs.Grid.{Ready}
-use Rattle.kernel.specs.Kinds.{coordinatesOf, cornersOf, numbersOf}
+use Rattle.kernel.specs.Kinds.{coordinatesOf}
 use Rattle.kernel.specs.declared.kinds.Kind.{Kind}
 use Rattle.exact.proofs.GridLaws.{sized-point}
 use Rattle.exact.proofs.Readings.{zero-kept-test}
@@ -22,13 +21,13 @@ use Rattle.space.proofs.SpaceLaws.{space-size-at, space-at}
 use Rattle.kernel.proofs.kinds.is_flat.Statement.{statement}
 use Rattle.kernel.proofs.kinds.is_flat.Tie as tie
 
--- the list of a shape of the kind that was found
+-- the list of a triangle of the kind that was found
 
-ready-as : {kind other : Kind} (l : List ℤ) → kind ≡ other → Ready (numbersOf kind) l → Ready (numbersOf other) l
-ready-as l e = subst (λ (k : Kind). Ready (numbersOf k) l) e
+ready-as : {kind other : Kind} (l : List ℤ) → kind ≡ other → Ready (3 * coordinatesOf kind) l → Ready (3 * coordinatesOf other) l
+ready-as l e = subst (λ (k : Kind). Ready (3 * coordinatesOf k) l) e
 
 abbrev flatAs : Kind → List ℤ → Bool
-flatAs kind l = isFlat (coordinatesOf kind) (pointsAt (coordinatesOf kind) (cornersOf kind) 0 l)
+flatAs kind l = isFlat (coordinatesOf kind) (pointsAt (coordinatesOf kind) 3 0 l)
 
 enum-told : tie.Need-enum-told
 enum-told c = search needs
@@ -41,34 +40,15 @@ turn-of-requires c κs =
 enum-told-2 : tie.Need-enum-told-2
 enum-told-2 c = search needs
 
-space-point-requires : tie.Need-space-point-requires
-space-point-requires c κs =
-    let p = c .before .before in
-    omega (arith, ready-as (p .args .numbers .now) (c .enum-told2 .given .1) (p .pre) .long)
-
-space-point-requires-2 : tie.Need-space-point-requires-2
-space-point-requires-2 c κs =
-    let p = c .before .before .before in
-    omega (arith, ready-as (p .args .numbers .now) (c .before .enum-told2 .given .1) (p .pre) .long)
-
-equal-points-requires : tie.Need-equal-points-requires
-equal-points-requires c κs =
-    let p = c .before .before .before .before in
-    let ready = ready-as (p .args .numbers .now) (c .before .before .enum-told2 .given .1) (p .pre) in
-    (sized-point ready 3 _ (c .before .space-point .ensures), sized-point ready 3 _ (c .space-point2 .ensures))
-
-enum-told-3 : tie.Need-enum-told-3
-enum-told-3 c = search needs
-
 space-triangle-requires : tie.Need-space-triangle-requires
 space-triangle-requires c κs =
     let p = c .before .before in
-    ready-as (p .args .numbers .now) (c .enum-told3 .given .1) (p .pre)
+    ready-as (p .args .numbers .now) (c .enum-told2 .given .1) (p .pre)
 
 axis-of-requires : tie.Need-axis-of-requires
 axis-of-requires c κs =
     let p = c .before .before .before in
-    let ready = ready-as (p .args .numbers .now) (c .before .enum-told3 .given .1) (p .pre) in
+    let ready = ready-as (p .args .numbers .now) (c .before .enum-told2 .given .1) (p .pre) in
     space-size-at (c .space-triangle .ensures) (sized-point ready 3 0 refl) (sized-point ready 3 3 refl) (sized-point ready 3 6 refl)
 
 returns : tie.Need-returns
@@ -80,19 +60,10 @@ returns c =
 
 returns-2 : tie.Need-returns-2
 returns-2 c =
-    let p = c .before .before .before .before .before in
-    let a = c .before .before .space-point .ensures in
-    let b = c .before .space-point2 .ensures in
-    c .equal-points .ensures
-    ∙ (λ i. isFlat 3 (a i ∷ b i ∷ []))
-    ∙ sym (ap (λ (k : Kind). flatAs k (p .args .numbers .now)) (c .before .before .before .enum-told2 .given .1))
-
-returns-3 : tie.Need-returns-3
-returns-3 c =
     let p = c .before .before .before .before in
     ap (λ (n : ℕ). eqb n 3) (c .axis-of .ensures ∙ space-at (c .before .space-triangle .ensures) axis)
     ∙ says-fixed (axis-says (pointAt 3 0 (p .args .numbers .now)) (pointAt 3 3 (p .args .numbers .now)) (pointAt 3 6 (p .args .numbers .now))) (is-flat 3 (pointsAt 3 3 0 (p .args .numbers .now)))
-    ∙ sym (ap (λ (k : Kind). flatAs k (p .args .numbers .now)) (c .before .before .enum-told3 .given .1))
+    ∙ sym (ap (λ (k : Kind). flatAs k (p .args .numbers .now)) (c .before .before .enum-told2 .given .1))
 
 pub is-flat-spec : {M : Type 1} → statement M
 is-flat-spec =
@@ -101,12 +72,7 @@ is-flat-spec =
     enum-told
     turn-of-requires
     enum-told-2
-    space-point-requires
-    space-point-requires-2
-    equal-points-requires
-    enum-told-3
     space-triangle-requires
     axis-of-requires
     returns
-    returns-2
-    returns-3)
+    returns-2)
