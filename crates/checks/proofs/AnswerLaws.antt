@@ -52,3 +52,8 @@ passed-on y e f g = g ∙ sym (ap (λ (z : Check). z then y) (sym e ∙ ap toldC
 pub then-fine : (x y : Check) → (x then y) ≡ fine → (x ≡ fine) × (y ≡ fine)
 then-fine (served u) y e = (refl, e)
 then-fine (refused number side place) y e = let z : _≡_ {A = ℕ} 0 1 = cc in absurd (omega arith)
+
+-- Nothing after a check leaves it as it is.
+pub then-nothing : (c : Check) → (c then fine) ≡ c
+then-nothing (served u) = refl
+then-nothing (refused number side place) = refl

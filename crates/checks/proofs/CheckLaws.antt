@@ -3,7 +3,7 @@
 use mathlib.Core.Path.{_≡_, refl, ap, _∙_}
 use mathlib.Core.Bool.{Bool, true, false, cond}
 use mathlib.Core.List.{List}
-use Prim.Native.Nat.{ℕ, _+_, _≤_}
+use Prim.Native.Nat.{ℕ, _≤_}
 use native.Mathlib.Omega.{arith}
 use borrow.Author.Tests.{eqb-true, eqb-false, ltb-true, ltb-false}
 use lib.Dec.{eqb, ltb}
@@ -16,7 +16,7 @@ use Rattle.shape.proofs.FlatLaws.{is-flat}
 use Rattle.checks.specs.Answers.{refused, fine}
 use Rattle.exact.specs.Grid.{limit, Ready}
 use Rattle.checks.specs.Grid.{lowestOff}
-use Rattle.checks.specs.Rules.{rightLength, allOnGrid, notFlat}
+use Rattle.checks.specs.Rules.{rightLength, allOnGrid, FlatShapes, refuses-flat, takes-flat, flatChecks}
 use Rattle.checks.proofs.AnswerLaws.{never-fine}
 use Rattle.checks.proofs.GridLaws.{Lowest, lowest, lowest-one, all-on}
 
@@ -59,72 +59,74 @@ not-long-refused side want l not-long = by-case (length-case side want l)
 abbrev pub OnGrid : List ℤ → Type 0
 OnGrid l = (i : ℕ) → natAbs (getD l i (pos 0)) ≤ limit
 
-pub data GridCase (side from : ℕ) (l : List ℤ) : Type 0 where
-  all : OnGrid l → allOnGrid side from l ≡ fine → GridCase side from l
-  not-all : Lowest l (lowestOff l) → allOnGrid side from l ≡ refused 1 side (from + lowestOff l) → GridCase side from l
+pub data GridCase (side : ℕ) (l : List ℤ) : Type 0 where
+  all : OnGrid l → allOnGrid side l ≡ fine → GridCase side l
+  not-all : Lowest l (lowestOff l) → allOnGrid side l ≡ refused 1 side (lowestOff l) → GridCase side l
 
-pub grid-case : (side from : ℕ) (l : List ℤ) → GridCase side from l
-grid-case side from l = by-test (ltb (lowestOff l) (length l)) refl
+pub grid-case : (side : ℕ) (l : List ℤ) → GridCase side l
+grid-case side l = by-test (ltb (lowestOff l) (length l)) refl
   where
-    by-test : (t : Bool) → ltb (lowestOff l) (length l) ≡ t → GridCase side from l
-    by-test true e = not-all (lowest l (ltb-true (lowestOff l) (length l) e)) (ap (λ (t : Bool). cond t (refused 1 side (from + lowestOff l)) fine) e)
-    by-test false e = all (all-on l (ltb-false (lowestOff l) (length l) e)) (ap (λ (t : Bool). cond t (refused 1 side (from + lowestOff l)) fine) e)
-
--- A position in a list that is checked from its start.
-pub from-start : (place : ℕ) → place ≡ 0 + place
-from-start place = omega arith
+    by-test : (t : Bool) → ltb (lowestOff l) (length l) ≡ t → GridCase side l
+    by-test true e = not-all (lowest l (ltb-true (lowestOff l) (length l) e)) (ap (λ (t : Bool). cond t (refused 1 side (lowestOff l)) fine) e)
+    by-test false e = all (all-on l (ltb-false (lowestOff l) (length l) e)) (ap (λ (t : Bool). cond t (refused 1 side (lowestOff l)) fine) e)
 
 -- A list of the wanted length that the check passes is ready.
-pub fine-ready : {want : ℕ} (side from : ℕ) (l : List ℤ) → length l ≡ want → allOnGrid side from l ≡ fine → Ready want l
-fine-ready {want} side from l long e = by-case (grid-case side from l)
+pub fine-ready : {want : ℕ} (side : ℕ) (l : List ℤ) → length l ≡ want → allOnGrid side l ≡ fine → Ready want l
+fine-ready {want} side l long e = by-case (grid-case side l)
   where
-    by-case : GridCase side from l → Ready want l
+    by-case : GridCase side l → Ready want l
     by-case (all on g) = record { long = long; each = on }
     by-case (not-all low g) = absurd (never-fine e g)
 
-pub on-fine : (side from : ℕ) (l : List ℤ) → OnGrid l → allOnGrid side from l ≡ fine
-on-fine side from l on = by-case (grid-case side from l)
+pub on-fine : (side : ℕ) (l : List ℤ) → OnGrid l → allOnGrid side l ≡ fine
+on-fine side l on = by-case (grid-case side l)
   where
-    by-case : GridCase side from l → allOnGrid side from l ≡ fine
+    by-case : GridCase side l → allOnGrid side l ≡ fine
     by-case (all h g) = g
     by-case (not-all low g) = absurd (omega (arith, low .off, on (lowestOff l)))
 
-pub off-refused : (side from place : ℕ) (l : List ℤ) → Lowest l place → allOnGrid side from l ≡ refused 1 side (from + place)
-off-refused side from place l low = by-case (grid-case side from l)
+pub off-refused : (side place : ℕ) (l : List ℤ) → Lowest l place → allOnGrid side l ≡ refused 1 side place
+off-refused side place l low = by-case (grid-case side l)
   where
-    by-case : GridCase side from l → allOnGrid side from l ≡ refused 1 side (from + place)
+    by-case : GridCase side l → allOnGrid side l ≡ refused 1 side place
     by-case (all on g) = absurd (omega (arith, low .off, on place))
-    by-case (not-all h g) = g ∙ ap (λ (p : ℕ). refused 1 side (from + p)) (lowest-one h low)
+    by-case (not-all h g) = g ∙ ap (refused 1 side) (lowest-one h low)
 
 -- ---- flat shapes
-pub data FlatCase (n side index : ℕ) (P : Shape) : Type 0 where
-  flat : Flat n P → notFlat n side index P ≡ refused 2 side index → FlatCase n side index P
-  not-flat : (Flat n P → ⊥) → notFlat n side index P ≡ fine → FlatCase n side index P
+-- The shape is refused as flat: it is flat, and the call refuses flat shapes.
+abbrev pub RefusedAsFlat : FlatShapes → ℕ → Shape → Type 0
+RefusedAsFlat refuses-flat n P = Flat n P
+RefusedAsFlat takes-flat n P = ⊥
 
-pub flat-case : (n side index : ℕ) (P : Shape) → FlatCase n side index P
-flat-case n side index P = by-test (isFlat n P) (is-flat n P) refl
-  where
-    by-test : (t : Bool) → Says t (Flat n P) → isFlat n P ≡ t → FlatCase n side index P
-    by-test true s e = flat (s .yes refl) (ap (λ (t : Bool). cond t (refused 2 side index) fine) e)
-    by-test false s e = not-flat (s .no refl) (ap (λ (t : Bool). cond t (refused 2 side index) fine) e)
+pub data FlatCase (flats : FlatShapes) (n side : ℕ) (P : Shape) : Type 0 where
+  flat : RefusedAsFlat flats n P → flatChecks flats n side P ≡ refused 2 side 0 → FlatCase flats n side P
+  not-flat : (RefusedAsFlat flats n P → ⊥) → flatChecks flats n side P ≡ fine → FlatCase flats n side P
 
-pub fine-not-flat : (n side index : ℕ) (P : Shape) → notFlat n side index P ≡ fine → Flat n P → ⊥
-fine-not-flat n side index P e = by-case (flat-case n side index P)
+pub flat-case : (flats : FlatShapes) (n side : ℕ) (P : Shape) → FlatCase flats n side P
+flat-case takes-flat n side P = not-flat (λ h. h) refl
+flat-case refuses-flat n side P = by-test (isFlat n P) (is-flat n P) refl
   where
-    by-case : FlatCase n side index P → Flat n P → ⊥
+    by-test : (t : Bool) → Says t (Flat n P) → isFlat n P ≡ t → FlatCase refuses-flat n side P
+    by-test true s e = flat (s .yes refl) (ap (λ (t : Bool). cond t (refused 2 side 0) fine) e)
+    by-test false s e = not-flat (s .no refl) (ap (λ (t : Bool). cond t (refused 2 side 0) fine) e)
+
+pub fine-not-flat : (flats : FlatShapes) (n side : ℕ) (P : Shape) → flatChecks flats n side P ≡ fine → RefusedAsFlat flats n P → ⊥
+fine-not-flat flats n side P e = by-case (flat-case flats n side P)
+  where
+    by-case : FlatCase flats n side P → RefusedAsFlat flats n P → ⊥
     by-case (flat h g) = absurd (never-fine e g)
     by-case (not-flat h g) = h
 
-pub not-flat-fine : (n side index : ℕ) (P : Shape) → (Flat n P → ⊥) → notFlat n side index P ≡ fine
-not-flat-fine n side index P h = by-case (flat-case n side index P)
+pub not-flat-fine : (flats : FlatShapes) (n side : ℕ) (P : Shape) → (RefusedAsFlat flats n P → ⊥) → flatChecks flats n side P ≡ fine
+not-flat-fine flats n side P h = by-case (flat-case flats n side P)
   where
-    by-case : FlatCase n side index P → notFlat n side index P ≡ fine
+    by-case : FlatCase flats n side P → flatChecks flats n side P ≡ fine
     by-case (flat f g) = absurd (h f)
     by-case (not-flat f g) = g
 
-pub flat-refused : (n side index : ℕ) (P : Shape) → Flat n P → notFlat n side index P ≡ refused 2 side index
-flat-refused n side index P h = by-case (flat-case n side index P)
+pub flat-refused : (flats : FlatShapes) (n side : ℕ) (P : Shape) → RefusedAsFlat flats n P → flatChecks flats n side P ≡ refused 2 side 0
+flat-refused flats n side P h = by-case (flat-case flats n side P)
   where
-    by-case : FlatCase n side index P → notFlat n side index P ≡ refused 2 side index
+    by-case : FlatCase flats n side P → flatChecks flats n side P ≡ refused 2 side 0
     by-case (flat f g) = g
     by-case (not-flat f g) = absurd (f h)

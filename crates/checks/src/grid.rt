@@ -2,9 +2,8 @@
 use crate::answer::Refusal;
 ghost use mathlib.Core.Path.{_≡_};
 ghost use mathlib.Core.Bool.{not};
-ghost use Prim.Native.Nat.{_+_, _^_, _<_};
-ghost use lib.ListN.{length};
 ghost use Rattle.checks.specs.Grid.{onGrid, lowestOff, allOn};
+ghost use Rattle.checks.specs.Answers.{_then_};
 ghost use Rattle.checks.specs.Rules.{rightLength, allOnGrid};
 ghost use Rattle.checks.specs.Told.{toldCheck};
 
@@ -72,10 +71,19 @@ pub fn length_checked(side: u32, want: usize, numbers: &[i32]) -> Checked
     }
 }
 
-// Refusal 1: a coordinate off the grid, among the numbers that stand in their list from a position on.
-pub fn grid_checked(side: u32, from: usize, numbers: &[i32]) -> Checked
-    requires { ⌜ from + length (now numbers) < 2 ^ 64 ⌝ }
-    ensures { λ r. ⌜ toldCheck r ≡ allOnGrid side from (now (numbers .entry)) ⌝ }
+// Refusal 3 of two lists: the first, then the second.
+pub fn lengths_checked(want: usize, first: &[i32], other: usize, second: &[i32]) -> Checked
+    ensures { λ r. ⌜ toldCheck r ≡ rightLength 0 want (now (first .entry)) then rightLength 1 other (now (second .entry)) ⌝ }
+{
+    match length_checked(0, want, first) {
+        Checked::Refused(why) => Checked::Refused(why),
+        Checked::Fine => length_checked(1, other, second),
+    }
+}
+
+// Refusal 1: a coordinate off the grid.
+pub fn grid_checked(side: u32, numbers: &[i32]) -> Checked
+    ensures { λ r. ⌜ toldCheck r ≡ allOnGrid side (now (numbers .entry)) ⌝ }
 {
     if all_on(numbers) {
         return Checked::Fine;
@@ -83,6 +91,16 @@ pub fn grid_checked(side: u32, from: usize, numbers: &[i32]) -> Checked
     Checked::Refused(Refusal {
         number: 1,
         side: side,
-        place: from + lowest_off(numbers),
+        place: lowest_off(numbers),
     })
+}
+
+// Refusal 1 of two lists: the first, then the second.
+pub fn grids_checked(first: &[i32], second: &[i32]) -> Checked
+    ensures { λ r. ⌜ toldCheck r ≡ allOnGrid 0 (now (first .entry)) then allOnGrid 1 (now (second .entry)) ⌝ }
+{
+    match grid_checked(0, first) {
+        Checked::Refused(why) => Checked::Refused(why),
+        Checked::Fine => grid_checked(1, second),
+    }
 }

@@ -1,12 +1,7 @@
 -- `checks::grid::grid_checked` meets its contract: a place is sought only where some number is off the grid. Assumes nothing.
 use borrow.Author.Needs.{needs}
 use mathlib.Core.Path.{refl, sym, ap, _∙_}
-use Prim.Native.Nat.{ℕ, _+_}
-use native.Mathlib.Omega.{arith}
-use borrow.Author.Tests.{ltb-true}
-use lib.ListN.{length}
 use Rattle.checks.specs.Answers.{refused}
-use Rattle.checks.specs.Grid.{lowestOff}
 use Rattle.exact.proofs.Branches.{if-taken, if-left}
 use Rattle.checks.proofs.GridLaws.{none-off, one-off}
 use Rattle.checks.proofs.grid.grid_checked.Statement.{statement}
@@ -23,17 +18,11 @@ returns c =
 lowest-off-requires : tie.Need-lowest-off-requires
 lowest-off-requires c κs = search needs
 
-add-t6 : tie.Need-add-t6
-add-t6 c =
-    let p = c .before .before in
-    let l = p .before .args .numbers .now in
-    omega (arith, p .before .pre, c .lowest-off .ensures, ltb-true (lowestOff l) (length l) (one-off l (sym (p .all-on .ensures) ∙ c .before .if1 .left)))
-
 returns-2 : tie.Need-returns-2
 returns-2 c =
     let p = c .before .before in
     if-taken _ _ (sym (one-off (p .before .args .numbers .now) (sym (p .all-on .ensures) ∙ c .before .if1 .left))) refl
-    (ap (λ (place : ℕ). refused 1 (p .before .args .side) (p .before .args .from + place)) (c .lowest-off .ensures))
+    (ap (refused 1 (p .before .args .side)) (c .lowest-off .ensures))
 
 pub grid-checked-spec : {M : Type 1} → statement M
-grid-checked-spec = tie.close (tie.spec all-on-requires returns lowest-off-requires add-t6 returns-2)
+grid-checked-spec = tie.close (tie.spec all-on-requires returns lowest-off-requires returns-2)

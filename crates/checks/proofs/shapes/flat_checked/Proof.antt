@@ -6,10 +6,10 @@ use Rattle.checks.proofs.shapes.flat_checked.Statement.{statement}
 use Rattle.checks.proofs.shapes.flat_checked.Tie as tie
 
 returns : tie.Need-returns
-returns c = sym (ap (λ (t : Bool). cond t (refused 2 (c .before .args .side) (c .before .args .index)) fine) (c .if1 .taken))
+returns c = sym (ap (λ (t : Bool). cond t (refused 2 (c .before .args .side) 0) fine) (c .if1 .taken))
 
 returns-2 : tie.Need-returns-2
-returns-2 c = sym (ap (λ (t : Bool). cond t (refused 2 (c .before .args .side) (c .before .args .index)) fine) (c .if1 .left))
+returns-2 c = sym (ap (λ (t : Bool). cond t (refused 2 (c .before .args .side) 0) fine) (c .if1 .left))
 
 pub flat-checked-spec : {M : Type 1} → statement M
 flat-checked-spec = tie.close (tie.spec returns returns-2)

@@ -10,7 +10,7 @@ use Rattle.checks.proofs.shapes.shape_checked.Statement.{statement}
 use Rattle.checks.proofs.shapes.shape_checked.Tie as tie
 
 grid-checked-requires : tie.Need-grid-checked-requires
-grid-checked-requires c κs = c .pre .1
+grid-checked-requires c κs = search needs
 
 enum-known-why : tie.Need-enum-known-why
 enum-known-why c = search needs
@@ -21,7 +21,7 @@ enum-told c = search needs
 is-flat-requires : tie.Need-is-flat-requires
 is-flat-requires c κs =
     let p = c .before .before in
-    fine-ready (p .before .args .side) _ (p .before .args .numbers .now) (p .before .pre .0) (sym (p .grid-checked .ensures) ∙ ap toldCheck (c .enum-told .given .1))
+    fine-ready (p .before .args .side) (p .before .args .numbers .now) (p .before .pre) (sym (p .grid-checked .ensures) ∙ ap toldCheck (c .enum-told .given .1))
 
 flat-checked-requires : tie.Need-flat-checked-requires
 flat-checked-requires c κs = search needs
@@ -36,7 +36,7 @@ returns-2 c =
     let p = c .before .before .before .before in
     let a = p .before .args in
     passed-on _ (p .grid-checked .ensures) (c .before .before .enum-told .given .1)
-    (c .flat-checked .ensures ∙ ap (λ (t : Bool). cond t (refused 2 (a .side) (a .index)) fine) (c .before .is-flat .ensures))
+    (c .flat-checked .ensures ∙ ap (λ (t : Bool). cond t (refused 2 (a .side) 0) fine) (c .before .is-flat .ensures))
 
 pub shape-checked-spec : {M : Type 1} → statement M
 shape-checked-spec =

@@ -1,12 +1,11 @@
--- `checks::shapes::shapes_checked` meets its contract: where the first shape is refused the second does not count. Assumes nothing.
+-- `checks::shapes::plane_triangles_checked` meets its contract: where the first triangle is refused the second does not count. Assumes nothing.
 use borrow.Author.Needs.{needs}
-use native.Mathlib.Omega.{arith}
 use Rattle.checks.proofs.AnswerLaws.{stopped, passed-on}
-use Rattle.checks.proofs.shapes.shapes_checked.Statement.{statement}
-use Rattle.checks.proofs.shapes.shapes_checked.Tie as tie
+use Rattle.checks.proofs.shapes.plane_triangles_checked.Statement.{statement}
+use Rattle.checks.proofs.shapes.plane_triangles_checked.Tie as tie
 
 shape-checked-requires : tie.Need-shape-checked-requires
-shape-checked-requires c κs = (c .pre .0, omega arith)
+shape-checked-requires c κs = c .pre .0
 
 enum-known-why : tie.Need-enum-known-why
 enum-known-why c = search needs
@@ -15,7 +14,7 @@ enum-told : tie.Need-enum-told
 enum-told c = search needs
 
 shape-checked-requires-2 : tie.Need-shape-checked-requires-2
-shape-checked-requires-2 c κs = (c .before .before .before .pre .1, omega arith)
+shape-checked-requires-2 c κs = c .before .before .before .pre .1
 
 returns : tie.Need-returns
 returns c =
@@ -27,8 +26,8 @@ returns-2 c =
     let p = c .before .before .before in
     passed-on _ (p .shape-checked .ensures) (c .before .enum-told .given .1) (c .shape-checked2 .ensures)
 
-pub shapes-checked-spec : {M : Type 1} → statement M
-shapes-checked-spec =
+pub plane-triangles-checked-spec : {M : Type 1} → statement M
+plane-triangles-checked-spec =
     tie.close
     (tie.spec
     shape-checked-requires
