@@ -16,7 +16,7 @@ use Rattle.checks.specs.Rules.{rightLength, allOnGrid}
 use Rattle.predicate.specs.Rules.{valueRule, signRule}
 use Rattle.checks.proofs.AnswerLaws.{served-later}
 use Rattle.checks.proofs.GridLaws.{SomeOff, Lowest, lowest-some, lowest-one}
-use Rattle.checks.proofs.CheckLaws.{from-start, LengthCase, right, wrong, length-case, GridCase, all, not-all, grid-case}
+use Rattle.checks.proofs.CheckLaws.{LengthCase, right, wrong, length-case, GridCase, all, not-all, grid-case}
 
 -- Of a call on n + 1 points of n coordinates, given as the list l.
 module _ (n : ℕ) (l : List ℤ) where
@@ -47,8 +47,8 @@ module _ (n : ℕ) (l : List ℤ) where
     abbrev checked : Check → Check → Answer A
     checked x y = x then y then served value
 
-    by-cases : LengthCase 0 want l → GridCase 0 0 l → Table (checked (rightLength 0 want l) (allOnGrid 0 0 l))
-    by-cases (wrong h e) g = subst Table (sym (ap (λ (x : Check). checked x (allOnGrid 0 0 l)) e))
+    by-cases : LengthCase 0 want l → GridCase 0 l → Table (checked (rightLength 0 want l) (allOnGrid 0 l))
+    by-cases (wrong h e) g = subst Table (sym (ap (λ (x : Check). checked x (allOnGrid 0 l)) e))
         (record {
           three = (λ f. h, λ f. refl);
           three-place = λ f. refl;
@@ -63,7 +63,7 @@ module _ (n : ℕ) (l : List ℤ) where
           three = (λ f. absurd (omega (arith, f)), λ f. absurd (f h));
           three-place = λ f. absurd (omega (arith, f));
           one = (λ f. (h, lowest-some low), λ f. refl);
-          one-place = λ f. subst (Lowest l) (from-start _) low;
+          one-place = λ f. low;
           none = (λ f. absurd (omega (arith, f)), λ r. absurd (not-both r (lowest-some low)));
           none-place = λ f. absurd (omega (arith, f));
           side = refl;
@@ -79,8 +79,8 @@ module _ (n : ℕ) (l : List ℤ) where
           side = refl;
         })
 
-    table : Table (checked (rightLength 0 want l) (allOnGrid 0 0 l))
-    table = by-cases (length-case 0 want l) (grid-case 0 0 l)
+    table : Table (checked (rightLength 0 want l) (allOnGrid 0 l))
+    table = by-cases (length-case 0 want l) (grid-case 0 l)
 
   -- The table holds of the answers that the contracts of the value calls and of the sign calls ask for.
   pub value-table : Table (valueRule n l)
@@ -90,20 +90,20 @@ module _ (n : ℕ) (l : List ℤ) where
   sign-table =
       let z : ℤ = bracket (pointsAt n (suc n) 0 l) in
       subst Table
-      (sym (served-later sign (rightLength 0 want l) (allOnGrid 0 0 l then served z) ∙ ap (λ (a : Answer ℤ). rightLength 0 want l then a) (served-later sign (allOnGrid 0 0 l) (served z))))
+      (sym (served-later sign (rightLength 0 want l) (allOnGrid 0 l then served z) ∙ ap (λ (a : Answer ℤ). rightLength 0 want l then a) (served-later sign (allOnGrid 0 l) (served z))))
       (table (sign z))
 
   -- The table fixes number, side and place.
   pub table-fixes : {A B : Type 0} (a : Answer A) (b : Answer B) → Table a → Table b →
       (numberOf a ≡ numberOf b) × (sideOf a ≡ sideOf b) × (placeOf a ≡ placeOf b)
-  table-fixes a b t u = fixed (length-case 0 want l) (grid-case 0 0 l)
+  table-fixes a b t u = fixed (length-case 0 want l) (grid-case 0 l)
     where
       -- both give the number m, and then the same place
       both : (m : ℕ) → numberOf a ≡ m → numberOf b ≡ m → placeOf a ≡ placeOf b →
           (numberOf a ≡ numberOf b) × (sideOf a ≡ sideOf b) × (placeOf a ≡ placeOf b)
       both m p q place = (p ∙ sym q, t .side ∙ sym (u .side), place)
 
-      fixed : LengthCase 0 want l → GridCase 0 0 l → (numberOf a ≡ numberOf b) × (sideOf a ≡ sideOf b) × (placeOf a ≡ placeOf b)
+      fixed : LengthCase 0 want l → GridCase 0 l → (numberOf a ≡ numberOf b) × (sideOf a ≡ sideOf b) × (placeOf a ≡ placeOf b)
       fixed (wrong h e) g =
           let p = t .three .1 h in
           let q = u .three .1 h in

@@ -10,24 +10,24 @@ use Rattle.shape.specs.Verdicts.{Says}
 use Rattle.shape.proofs.Trading.{Among, share-trade, share-reorder}
 use Rattle.shape.proofs.VerdictLaws.{says-same, says-fixed}
 use Rattle.checks.specs.Answers.{served}
-use Rattle.checks.specs.Rules.{pairChecks}
+use Rattle.checks.specs.Rules.{FlatShapes, pairChecks}
 use Rattle.predicate.specs.Rules.{VerdictRule}
 use Rattle.checks.proofs.AnswerLaws.{then-served}
 
 -- What is served is right.
-pub served-right : {n k m : ℕ} {first second : List ℤ} {v : Bool} → VerdictRule n k m first second (served v) →
+pub served-right : {flats : FlatShapes} {n k m : ℕ} {first second : List ℤ} {v : Bool} → VerdictRule flats n k m first second (served v) →
     Says v (Share n (pointsAt n k 0 first) (pointsAt n m 0 second))
-served-right {n} {k} {m} {first} {second} {v} rule =
-    let e = then-served (pairChecks n k m first second) (rule .verdict) v (rule .told) in
+served-right {flats} {n} {k} {m} {first} {second} {v} rule =
+    let e = then-served (pairChecks flats n k m first second) (rule .verdict) v (rule .told) in
     subst (λ (w : Bool). Says w (Share n (pointsAt n k 0 first) (pointsAt n m 0 second))) (sym (e .1)) (rule .right (e .0))
 
-pub verdict-traded : {n k m : ℕ} {first second : List ℤ} {v w : Bool} →
-    VerdictRule n k m first second (served v) → VerdictRule n m k second first (served w) → v ≡ w
+pub verdict-traded : {flats : FlatShapes} {n k m : ℕ} {first second : List ℤ} {v w : Bool} →
+    VerdictRule flats n k m first second (served v) → VerdictRule flats n m k second first (served w) → v ≡ w
 verdict-traded r s = says-fixed (served-right r) (says-same (share-trade, share-trade) (served-right s))
 
 -- The corners of each shape are the same ones, in whatever order.
-pub verdict-reordered : {n k m : ℕ} {first second first′ second′ : List ℤ} {v w : Bool} →
+pub verdict-reordered : {flats : FlatShapes} {n k m : ℕ} {first second first′ second′ : List ℤ} {v w : Bool} →
     Among (pointsAt n k 0 first) (pointsAt n k 0 first′) → Among (pointsAt n k 0 first′) (pointsAt n k 0 first) →
     Among (pointsAt n m 0 second) (pointsAt n m 0 second′) → Among (pointsAt n m 0 second′) (pointsAt n m 0 second) →
-    VerdictRule n k m first second (served v) → VerdictRule n k m first′ second′ (served w) → v ≡ w
+    VerdictRule flats n k m first second (served v) → VerdictRule flats n k m first′ second′ (served w) → v ≡ w
 verdict-reordered a a′ b b′ r s = says-fixed (says-same (share-reorder a a′ b b′) (served-right r)) (served-right s)

@@ -8,7 +8,7 @@ use lib.IntN.{ℤ, pos, negsuc}
 use Rattle.checks.specs.Answers.{Answer, served, refused}
 use Rattle.checks.proofs.AnswerLaws.{one-verdict}
 use Rattle.predicate.specs.Rules.{valueRule, signRule, VerdictRule}
-use Rattle.checks.specs.Rules.{pairChecks}
+use Rattle.checks.specs.Rules.{FlatShapes, pairChecks}
 use Rattle.exact.specs.Vectors.{signNumber}
 use Rattle.predicate.specs.Told.{toldSign, toldValue, toldVerdict}
 use Rattle.checks.specs.declared.answer.Refusal.{Refusal}
@@ -81,14 +81,14 @@ pub value-unique : (n : ℕ) (numbers : List ℤ) (r s : ValueAnswer) →
 value-unique n numbers r s e e′ = told-fixed toldValue valueBack value-back r s (e ∙ sym e′)
 
 -- One answer at most is right of a verdict call.
-pub rule-fixed : {n k m : ℕ} {first second : List ℤ} {a b : Answer Bool} → VerdictRule n k m first second a → VerdictRule n k m first second b → a ≡ b
-rule-fixed {n} {k} {m} {first} {second} r s = r .told ∙ one-verdict (pairChecks n k m first second) (r .right) (s .right) ∙ sym (s .told)
+pub rule-fixed : {flats : FlatShapes} {n k m : ℕ} {first second : List ℤ} {a b : Answer Bool} → VerdictRule flats n k m first second a → VerdictRule flats n k m first second b → a ≡ b
+rule-fixed {flats} {n} {k} {m} {first} {second} r s = r .told ∙ one-verdict (pairChecks flats n k m first second) (r .right) (s .right) ∙ sym (s .told)
 
 -- Two verdict answers that tell the same are equal.
 pub verdict-told : (r s : VerdictAnswer) → toldVerdict r ≡ toldVerdict s → r ≡ s
 verdict-told = told-fixed toldVerdict verdictBack verdict-back
 
--- Two answers that meet the contract of a verdict call (`flat_verdict` has n = 2, k = m = 3) are equal.
-pub verdict-unique : {n k m : ℕ} {first second : List ℤ} (r s : VerdictAnswer) →
-    VerdictRule n k m first second (toldVerdict r) → VerdictRule n k m first second (toldVerdict s) → r ≡ s
+-- Two answers that meet the contract of a verdict call (`flat_verdict` refuses flat shapes and has n = 2, k = m = 3) are equal.
+pub verdict-unique : {flats : FlatShapes} {n k m : ℕ} {first second : List ℤ} (r s : VerdictAnswer) →
+    VerdictRule flats n k m first second (toldVerdict r) → VerdictRule flats n k m first second (toldVerdict s) → r ≡ s
 verdict-unique r s e e′ = verdict-told r s (rule-fixed e e′)

@@ -16,13 +16,13 @@ use Rattle.checks.specs.declared.grid.Checked.the-variants.{Fine, Refused}
 use Rattle.checks.proofs.AnswerLaws.{then-assoc}
 use Rattle.predicate.proofs.Exactly.{value-table}
 
-module _ (n : ℕ) (l : List ℤ) (found : Checked) (e : toldCheck found ≡ (rightLength 0 (suc n * n) l then allOnGrid 0 0 l)) where
+module _ (n : ℕ) (l : List ℤ) (found : Checked) (e : toldCheck found ≡ (rightLength 0 (suc n * n) l then allOnGrid 0 l)) where
   abbrev value : Answer ℤ
   value = served (bracket (pointsAt n (suc n) 0 l))
 
   -- the answer is what follows that which the checks found
   follows : (c : Check) → toldCheck found ≡ c → (c then value) ≡ valueRule n l
-  follows c f = ap (λ (x : Check). x then value) (sym f ∙ e) ∙ then-assoc (rightLength 0 (suc n * n) l) (allOnGrid 0 0 l) value
+  follows c f = ap (λ (x : Check). x then value) (sym f ∙ e) ∙ then-assoc (rightLength 0 (suc n * n) l) (allOnGrid 0 l) value
 
   pub checks-refuse : (why : Refusal) → found ≡ Refused why → toldRefusal why ≡ valueRule n l
   checks-refuse why f = follows (toldRefusal why) (ap toldCheck f)

@@ -17,11 +17,11 @@ ghost use Rattle.predicate.specs.Told.{toldValue, toldSign};
 
 // The refusals of a sign call: 3, then 1.
 fn points_checked(want: usize, numbers: &[i32]) -> Checked
-    ensures { λ r. ⌜ toldCheck r ≡ rightLength 0 want (now (numbers .entry)) then allOnGrid 0 0 (now (numbers .entry)) ⌝ }
+    ensures { λ r. ⌜ toldCheck r ≡ rightLength 0 want (now (numbers .entry)) then allOnGrid 0 (now (numbers .entry)) ⌝ }
 {
     match length_checked(0, want, numbers) {
         Checked::Refused(why) => Checked::Refused(why),
-        Checked::Fine => grid_checked(0, 0, numbers),
+        Checked::Fine => grid_checked(0, numbers),
     }
 }
 

@@ -1,12 +1,13 @@
 -- `predicate::verdicts::segment_verdict` meets its contract: what the checks refuse is refused, and what they pass is judged by the definition.
 -- Assumes nothing.
 use borrow.Author.Needs.{needs}
+use Rattle.checks.specs.Rules.{takes-flat}
 use Rattle.predicate.proofs.PairLaws.{found-fine, refused-by-checks, judged}
 use Rattle.predicate.proofs.verdicts.segment_verdict.Statement.{statement}
 use Rattle.predicate.proofs.verdicts.segment_verdict.Tie as tie
 
-pair-checked-requires : tie.Need-pair-checked-requires
-pair-checked-requires c κs = search needs
+in-space-checked-requires : tie.Need-in-space-checked-requires
+in-space-checked-requires c κs = search needs
 
 enum-known-why : tie.Need-enum-known-why
 enum-known-why c = search needs
@@ -17,7 +18,7 @@ enum-told c = search needs
 segment-meets-triangle-requires : tie.Need-segment-meets-triangle-requires
 segment-meets-triangle-requires c κs =
     let q = c .before .before in
-    found-fine 3 2 3 (q .before .args .first .now) (q .before .args .second .now) (q .pair-checked .ensures) (c .enum-told .given .1)
+    found-fine takes-flat 3 2 3 (q .before .args .first .now) (q .before .args .second .now) (q .in-space-checked .ensures) (c .enum-told .given .1)
 
 verdict-requires : tie.Need-verdict-requires
 verdict-requires c κs = search needs
@@ -25,12 +26,12 @@ verdict-requires c κs = search needs
 returns : tie.Need-returns
 returns c =
     let q = c .before .before .before in
-    refused-by-checks 3 2 3 (q .before .args .first .now) (q .before .args .second .now) (q .pair-checked .ensures) _ (c .before .why .given .1)
+    refused-by-checks takes-flat 3 2 3 (q .before .args .first .now) (q .before .args .second .now) (q .in-space-checked .ensures) _ (c .before .why .given .1)
 
 returns-2 : tie.Need-returns-2
 returns-2 c =
     let q = c .before .before .before .before in
-    judged 3 2 3 (q .before .args .first .now) (q .before .args .second .now) (q .pair-checked .ensures) _ (c .before .before .enum-told .given .1)
+    judged takes-flat 3 2 3 (q .before .args .first .now) (q .before .args .second .now) (q .in-space-checked .ensures) _ (c .before .before .enum-told .given .1)
     (c .verdict .ensures)
     (c .before .segment-meets-triangle .ensures)
 
@@ -38,7 +39,7 @@ pub segment-verdict-spec : {M : Type 1} → statement M
 segment-verdict-spec =
     tie.close
     (tie.spec
-    pair-checked-requires
+    in-space-checked-requires
     enum-known-why
     enum-told
     segment-meets-triangle-requires
