@@ -7,7 +7,7 @@ use Prim.Native.Nat.{ℕ, _+_, _*_, _≤_, _<_}
 use lib.IntN.{ℤ, pos}
 use lib.ListN.{length, getD, take, drop}
 use lib.Signed.{ltZ}
-use Rattle.exact.specs.Grid.{Passed}
+use Rattle.exact.specs.Grid.{Ready}
 use Rattle.exact.specs.Vectors.{normalIn}
 use Rattle.boxes.specs.Triangles.{triangles, nine}
 
@@ -49,10 +49,10 @@ six i boxes = take 6 (drop (6 * i) boxes)
 abbrev pub Boxed : List ℤ → List ℤ → Type 0
 Boxed numbers boxes = (i : ℕ) → i < triangles numbers → six i boxes ≡ boxOf (nine i numbers)
 
--- A list of few enough triangles that passed the checks.
+-- A list of few enough triangles, each on the grid.
 pub record Sound (numbers : List ℤ) : Type 0 where
   pub few : triangles numbers ≤ 1024
-  pub passed : (i : ℕ) → i < triangles numbers → Passed 3 3 (nine i numbers)
+  pub ready : (i : ℕ) → i < triangles numbers → Ready 9 (nine i numbers)
 
 -- ---- the normals of triangles
 -- The normal with index i.
@@ -63,9 +63,9 @@ three i normals = take 3 (drop (3 * i) normals)
 abbrev pub Normals : List ℤ → List ℤ → Type 0
 Normals numbers normals = (i : ℕ) → i < triangles numbers → three i normals ≡ normalIn (nine i numbers)
 
--- A triangle that passed the checks, and its box and normal.
+-- A triangle on the grid, and its box and normal.
 pub record Known (corners bounds plane : List ℤ) : Type 0 where
-  pub passed : Passed 3 3 corners
+  pub ready : Ready 9 corners
   pub boxed : bounds ≡ boxOf corners
   pub normal : plane ≡ normalIn corners
 

@@ -14,10 +14,11 @@ use Rattle.shape.specs.Sharing.{Share}
 use Rattle.shape.proofs.VerdictLaws.{says-yes, says-fixed}
 use Rattle.kernel.specs.Meeting.{Judges}
 use Rattle.checks.specs.Answers.{served, Check, fine, _then_, withServed}
+use Rattle.checks.specs.Rules.{allOnGrid}
 use Rattle.checks.proofs.AnswerLaws.{then-assoc, served-later, then-served, then-fine}
 use Rattle.boxes.specs.Triangles.{triangles, nine}
 use Rattle.listing.specs.Pairs.{Pair, gathered, pairIf, pairsOf, twoEach}
-use Rattle.listing.specs.Rules.{startWithin, listLength, eachTriangle, inputChecks, roomFor, outcome, afterwards, ListRule}
+use Rattle.listing.specs.Rules.{startWithin, listLength, inputChecks, roomFor, outcome, afterwards, ListRule}
 use Rattle.listing.proofs.ListChecks.{fine-within, fine-room}
 
 -- ---- what stands in a list
@@ -289,4 +290,4 @@ served-exactly {a} {b} {buffer} {start} {count} {after} rule = record {
 
     within : startWithin start (length buffer) ≡ fine
     within =
-        then-fine (startWithin start (length buffer)) (listLength 0 a then listLength 1 b then eachTriangle 0 a then eachTriangle 1 b) (fine-both .0) .0
+        then-fine (startWithin start (length buffer)) (listLength 0 a then listLength 1 b then allOnGrid 0 a then allOnGrid 1 b) (fine-both .0) .0

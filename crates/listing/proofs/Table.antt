@@ -1,20 +1,23 @@
 -- Each reason of a listing is given exactly in the case that document 01's table states, with the side and the place stated there.
--- `ListCase` is the table and `list-exactly` the theorem; between them is its proof. The words are those of Order and ListChecks.
+-- `ListCase` is the table and `list-exactly` the theorem; between them is its proof. No case has the number 2, which a listing never gives
+-- (`list-two-never`). The words are those of Order and ListChecks.
 -- Assumes nothing.
-use mathlib.Core.Path.{_≡_, sym, ap, _∙_, subst₃}
+use mathlib.Core.Path.{_≡_, refl, sym, ap, _∙_, subst₃}
 use mathlib.Core.List.{List}
 use mathlib.Core.Logic.{_↔_, _⊎_, inl, inr}
 use Prim.Native.Nat.{ℕ, _+_, _-_, _*_, _<_, _≤_}
-use native.Mathlib.Nat.{le-refl}
 use native.Mathlib.Omega.{arith}
 use lib.IntN.{ℤ}
 use lib.ListN.{length}
 use Rattle.checks.specs.Answers.{Answer, served, refused, Check, fine, _then_, withServed, numberOf, sideOf, placeOf}
+use Rattle.checks.specs.Rules.{allOnGrid}
+use Rattle.checks.proofs.GridLaws.{Lowest}
+use Rattle.checks.proofs.CheckLaws.{OnGrid, GridCase, all, not-all, grid-case, on-fine, off-refused}
 use Rattle.boxes.specs.Triangles.{triangles}
 use Rattle.listing.specs.Pairs.{Pair, pairsOf}
-use Rattle.listing.specs.Rules.{listLength, eachTriangle, inputChecks, roomFor, outcome, ListRule}
+use Rattle.listing.specs.Rules.{listLength, inputChecks, roomFor, outcome, ListRule}
 use Rattle.listing.proofs.Order.{MeetingPairs, meeting-fixed, verdicts-list}
-use Rattle.listing.proofs.ListChecks.{at-most-or-above, within-fine, beyond-refused, room-fine, no-room-refused, RightLength, right-length-or-not, right-length-fine, wrong-length-refused, FineList, Fault, SomeFault, fine-or-fault, list-fine, fault-refused}
+use Rattle.listing.proofs.ListChecks.{at-most-or-above, within-fine, beyond-refused, room-fine, no-room-refused, RightLength, right-length-or-not, right-length-fine, wrong-length-refused}
 
 -- An answer gives this number, side and place.
 abbrev pub Gives : {A : Type 0} → Answer A → (number side place : ℕ) → Type 0
@@ -30,8 +33,8 @@ module _ (a b : List ℤ) (buffer : List ℕ) (start : ℕ) where
 
   pub record FineInput : Type 0 where
     pub lengths : RightLengths
-    pub first : FineList a
-    pub second : FineList b
+    pub first : OnGrid a
+    pub second : OnGrid b
 
   -- The table: what goes with each number, side and place. Each case says that no fault before it is there, and so the first wins.
   pub data ListCase : (number side place : ℕ) → Type 0 where
@@ -40,9 +43,9 @@ module _ (a b : List ℤ) (buffer : List ℕ) (start : ℕ) where
     -- 3: the first list's length is no multiple of nine or above 9,216, then the second's. The place is the length.
     first-length : start ≤ length buffer → (RightLength a → ⊥) → ListCase 3 0 (length a)
     second-length : start ≤ length buffer → RightLength a → (RightLength b → ⊥) → ListCase 3 1 (length b)
-    -- 1 or 2: the first triangle at fault in the first list, then in the second, as `Fault` says, with its place.
-    first-fault : (number place : ℕ) → RightLengths → Fault a number place → ListCase number 0 place
-    second-fault : (number place : ℕ) → RightLengths → FineList a → Fault b number place → ListCase number 1 place
+    -- 1: the first list has a number off the grid, then the second. The place is the lowest such position.
+    first-off : (place : ℕ) → RightLengths → Lowest a place → ListCase 1 0 place
+    second-off : (place : ℕ) → RightLengths → OnGrid a → Lowest b place → ListCase 1 1 place
     -- 5: fewer than two numbers of room a pair, for all pairs that have a point in common. The place is how many there are.
     no-room : (pairs : List Pair) → FineInput → MeetingPairs a b pairs →
         length buffer < start + 2 * length pairs → ListCase 5 0 (length pairs)
@@ -53,19 +56,19 @@ module _ (a b : List ℤ) (buffer : List ℕ) (start : ℕ) where
   abbrev checks : Check
   checks = inputChecks a b buffer start
 
-  -- Where the start and the lengths are right the triangles decide.
-  triangles-decide : RightLengths → checks ≡ (eachTriangle 0 a then eachTriangle 1 b)
-  triangles-decide h =
+  -- Where the start and the lengths are right the numbers decide.
+  numbers-decide : RightLengths → checks ≡ (allOnGrid 0 a then allOnGrid 1 b)
+  numbers-decide h =
       let c = within-fine start (length buffer) (h .within) in
       let d = right-length-fine a 0 (h .first) in
       let e = right-length-fine b 1 (h .second) in
-      λ i. c i then d i then e i then eachTriangle 0 a then eachTriangle 1 b
+      λ i. c i then d i then e i then allOnGrid 0 a then allOnGrid 1 b
 
   input-fine : FineInput → checks ≡ fine
   input-fine h =
-      let f = list-fine a 0 (h .first) in
-      let g = list-fine b 1 (h .second) in
-      triangles-decide (h .lengths) ∙ (λ i. f i then g i)
+      let f = on-fine 0 a (h .first) in
+      let g = on-fine 1 b (h .second) in
+      numbers-decide (h .lengths) ∙ (λ i. f i then g i)
 
   module _ {answer : Answer ℕ} {after : List ℕ} (rule : ListRule a b buffer start answer after) where
     abbrev pairs : List Pair
@@ -94,23 +97,22 @@ module _ (a b : List ℤ) (buffer : List ℕ) (start : ℕ) where
     from-case : (number side place : ℕ) → ListCase number side place → Gives answer number side place
     from-case number side place (start-beyond h) =
         let c = beyond-refused start (length buffer) h in
-        gives-check (λ i. c i then listLength 0 a then listLength 1 b then eachTriangle 0 a then eachTriangle 1 b)
+        gives-check (λ i. c i then listLength 0 a then listLength 1 b then allOnGrid 0 a then allOnGrid 1 b)
     from-case number side place (first-length h wrong) =
         let c = within-fine start (length buffer) h in
         let d = wrong-length-refused a 0 wrong in
-        gives-check (λ i. c i then d i then listLength 1 b then eachTriangle 0 a then eachTriangle 1 b)
+        gives-check (λ i. c i then d i then listLength 1 b then allOnGrid 0 a then allOnGrid 1 b)
     from-case number side place (second-length h right wrong) =
         let c = within-fine start (length buffer) h in
         let d = right-length-fine a 0 right in
         let e = wrong-length-refused b 1 wrong in
-        gives-check (λ i. c i then d i then e i then eachTriangle 0 a then eachTriangle 1 b)
-    from-case number side place (first-fault reason at h fault) =
-        let f = fault-refused a 0 reason at fault in
-        gives-check (triangles-decide h ∙ ap (λ (c : Check). c then eachTriangle 1 b) f)
-    from-case number side place (second-fault reason at h fine-first fault) =
-        let f = list-fine a 0 fine-first in
-        let g = fault-refused b 1 reason at fault in
-        gives-check (triangles-decide h ∙ (λ i. f i then g i))
+        gives-check (λ i. c i then d i then e i then allOnGrid 0 a then allOnGrid 1 b)
+    from-case number side place (first-off at h low) =
+        gives-check (numbers-decide h ∙ ap (λ (c : Check). c then allOnGrid 1 b) (off-refused 0 at a low))
+    from-case number side place (second-off at h on low) =
+        let f = on-fine 0 a on in
+        let g = off-refused 1 at b low in
+        gives-check (numbers-decide h ∙ (λ i. f i then g i))
     from-case number side place (no-room ps h met few) =
         let count = same-count h met in
         let c = input-fine h in
@@ -140,12 +142,10 @@ module _ (a b : List ℤ) (buffer : List ℕ) (start : ℕ) where
             decide (inl enough) = record { number = 0; side = 0; place = 0; found = none pairs h (meeting h) enough }
             decide (inr few) = record { number = 5; side = 0; place = length pairs; found = no-room pairs h (meeting h) few }
 
-        by-triangles : RightLengths → FineList a ⊎ SomeFault a → FineList b ⊎ SomeFault b → SomeCase
-        by-triangles h (inr s) g =
-            record { number = s .number; side = 0; place = s .place; found = first-fault (s .number) (s .place) h (s .fault) }
-        by-triangles h (inl f) (inr s) =
-            record { number = s .number; side = 1; place = s .place; found = second-fault (s .number) (s .place) h f (s .fault) }
-        by-triangles h (inl f) (inl g) = by-room (record { lengths = h; first = f; second = g })
+        by-numbers : RightLengths → GridCase 0 a → GridCase 1 b → SomeCase
+        by-numbers h (not-all low e) g = record { number = 1; side = 0; place = _; found = first-off _ h low }
+        by-numbers h (all on e) (not-all low g) = record { number = 1; side = 1; place = _; found = second-off _ h on low }
+        by-numbers h (all on e) (all on′ g) = by-room (record { lengths = h; first = on; second = on′ })
 
         by-start : (start ≤ length buffer) ⊎ (length buffer < start) →
             RightLength a ⊎ (RightLength a → ⊥) → RightLength b ⊎ (RightLength b → ⊥) → SomeCase
@@ -153,8 +153,7 @@ module _ (a b : List ℤ) (buffer : List ℕ) (start : ℕ) where
         by-start (inl h) (inr wrong) g = record { number = 3; side = 0; place = length a; found = first-length h wrong }
         by-start (inl h) (inl right) (inr wrong) = record { number = 3; side = 1; place = length b; found = second-length h right wrong }
         by-start (inl h) (inl right) (inl right′) =
-            by-triangles (record { within = h; first = right; second = right′ }) (fine-or-fault a (triangles a) (le-refl (triangles a)))
-            (fine-or-fault b (triangles b) (le-refl (triangles b)))
+            by-numbers (record { within = h; first = right; second = right′ }) (grid-case 0 a) (grid-case 1 b)
 
     -- ---- the answer
     -- An answer that meets the contract of a listing gives a number, a side and a place exactly in their case.
@@ -166,3 +165,15 @@ module _ (a b : List ℤ) (buffer : List ℕ) (start : ℕ) where
             let s = some-case in
             let given = from-case (s .number) (s .side) (s .place) (s .found) in
             subst₃ ListCase (sym (given .0) ∙ e .0) (sym (given .1) ∙ e .1) (sym (given .2) ∙ e .2) (s .found)
+
+    pub list-two-never : numberOf answer ≡ 2 → ⊥
+    list-two-never two = no-case two (list-exactly (numberOf answer) (sideOf answer) (placeOf answer) .1 (refl, refl, refl))
+      where
+        no-case : {number side place : ℕ} → number ≡ 2 → ListCase number side place → ⊥
+        no-case e (start-beyond h) = omega arith
+        no-case e (first-length h wrong) = omega arith
+        no-case e (second-length h right wrong) = omega arith
+        no-case e (first-off at h low) = omega arith
+        no-case e (second-off at h on low) = omega arith
+        no-case e (no-room ps h met few) = omega (arith, e)
+        no-case e (none ps h met enough) = omega (arith, e)

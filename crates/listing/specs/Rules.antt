@@ -2,13 +2,13 @@
 use mathlib.Core.Path.{_≡_}
 use mathlib.Core.Bool.{Bool, cond}
 use mathlib.Core.List.{List, _++_}
-use Prim.Native.Nat.{ℕ, zero, suc, _+_, _-_, _*_, _%_, _<_}
+use Prim.Native.Nat.{ℕ, _+_, _-_, _*_, _%_, _<_}
 use lib.Dec.{eqb, leb}
 use lib.IntN.{ℤ}
 use lib.ListN.{length, take, drop}
 use Rattle.kernel.specs.Meeting.{Judges}
 use Rattle.checks.specs.Answers.{Answer, served, refused, Check, fine, _then_, withServed}
-use Rattle.checks.specs.Rules.{shapeChecks}
+use Rattle.checks.specs.Rules.{allOnGrid}
 use Rattle.boxes.specs.Triangles.{triangles, nine}
 use Rattle.listing.specs.Pairs.{Pair, pairsOf, twoEach}
 
@@ -24,19 +24,10 @@ listLength side numbers =
     (cond (leb (length numbers) 9216) fine (refused 3 side (length numbers)))
     (refused 3 side (length numbers))
 
--- The checks of 0, 1, .. below n, one after the other.
-abbrev pub checksBelow : ℕ → (ℕ → Check) → Check
-checksBelow zero check = fine
-checksBelow (suc n) check = checksBelow n check then check n
-
--- Reasons 1 and then 2, triangle by triangle. The place is the position in the list, or the triangle's index.
-abbrev pub eachTriangle : ℕ → List ℤ → Check
-eachTriangle side numbers = checksBelow (triangles numbers) (λ i. shapeChecks 3 3 side (9 * i) i (nine i numbers))
-
--- 4, then 3 of both lists, then 1 and 2 of the first list and of the second.
+-- 4, then 3 of both lists, then 1 of the first list and of the second. A flat triangle is listed as the segment or the point that it is.
 abbrev pub inputChecks : List ℤ → List ℤ → List ℕ → ℕ → Check
 inputChecks a b buffer start =
-    startWithin start (length buffer) then listLength 0 a then listLength 1 b then eachTriangle 0 a then eachTriangle 1 b
+    startWithin start (length buffer) then listLength 0 a then listLength 1 b then allOnGrid 0 a then allOnGrid 1 b
 
 -- Reason 5: fewer than two numbers of room a pair, from the start on. The place is the number of pairs.
 abbrev pub roomFor : ℕ → ℕ → Check

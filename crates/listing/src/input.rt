@@ -1,12 +1,12 @@
-// The checks of a listing's input: refusal 4 of the start, 3 of both lists, then 1 and 2, triangle by triangle.
+// The checks of a listing's input: refusal 4 of the start, 3 of both lists, then 1 of both.
 use checks::Checked;
 use checks::Refusal;
-use checks::shape_checked;
-use kernel::Kind;
+use checks::grids_checked;
 ghost use mathlib.Core.Path.{_≡_};
 ghost use Rattle.checks.specs.Answers.{refused, _then_};
+ghost use Rattle.checks.specs.Rules.{allOnGrid};
 ghost use Rattle.checks.specs.Told.{toldCheck};
-ghost use Rattle.listing.specs.Rules.{startWithin, listLength, eachTriangle};
+ghost use Rattle.listing.specs.Rules.{startWithin, listLength};
 
 // Refusal 4, where the whole buffer has room for so many numbers.
 fn start_checked(start: usize, room: usize) -> Checked
@@ -46,28 +46,6 @@ fn list_length_checked(side: u32, numbers: &[i32]) -> Checked
     length_refused(side, numbers.len())
 }
 
-// Refusals 1 and 2, triangle by triangle.
-fn each_checked(side: u32, numbers: &[i32]) -> Checked
-    ensures { λ r. ⌜ toldCheck r ≡ eachTriangle side (now (numbers .entry)) ⌝ }
-{
-    let count = numbers.len() / 9;
-    let mut i: usize = 0;
-    while i < count {
-        let found = shape_checked(
-            Kind::SpaceTriangle,
-            side,
-            9 * i,
-            i,
-            &numbers[9 * i..9 * i + 9],
-        );
-        if let Checked::Refused(why) = found {
-            return Checked::Refused(why);
-        }
-        i += 1;
-    }
-    Checked::Fine
-}
-
 // The start, and the lengths of both lists.
 fn sizes_checked(a: &[i32], b: &[i32], start: usize, room: usize) -> Checked
     ensures { λ r. ⌜ toldCheck r ≡ startWithin start room then listLength 0 (now (a .entry)) then listLength 1 (now (b .entry)) ⌝ }
@@ -83,13 +61,10 @@ fn sizes_checked(a: &[i32], b: &[i32], start: usize, room: usize) -> Checked
 
 // All of them, in their order.
 pub fn input_checked(a: &[i32], b: &[i32], start: usize, room: usize) -> Checked
-    ensures { λ r. ⌜ toldCheck r ≡ startWithin start room then listLength 0 (now (a .entry)) then listLength 1 (now (b .entry)) then eachTriangle 0 (now (a .entry)) then eachTriangle 1 (now (b .entry)) ⌝ }
+    ensures { λ r. ⌜ toldCheck r ≡ startWithin start room then listLength 0 (now (a .entry)) then listLength 1 (now (b .entry)) then allOnGrid 0 (now (a .entry)) then allOnGrid 1 (now (b .entry)) ⌝ }
 {
     if let Checked::Refused(why) = sizes_checked(a, b, start, room) {
         return Checked::Refused(why);
     }
-    if let Checked::Refused(why) = each_checked(0, a) {
-        return Checked::Refused(why);
-    }
-    each_checked(1, b)
+    grids_checked(a, b)
 }

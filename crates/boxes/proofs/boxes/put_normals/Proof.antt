@@ -68,7 +68,7 @@ put-normal-requires c κs =
     let l = p .loop in
     let numbers = p .before .args .numbers .now in (
       length-lent (3 * l .i) 3 (l .normals) (omega arith),
-      subst (λ (n : List ℤ). Ready 9 n) (sym (part (9 * l .i) 9 numbers)) (p .before .pre .0 .passed (l .i) (omega arith) .ready),
+      subst (λ (n : List ℤ). Ready 9 n) (sym (part (9 * l .i) 9 numbers)) (p .before .pre .0 .ready (l .i) (omega arith)),
     )
 
 add-i : tie.Need-add-i Inv-loop μ-loop

@@ -7,7 +7,7 @@ use borrow.Author.Needs.{needs}
 use lib.IntN.{ℤ}
 use lib.ListN.{length, length-set}
 use Rattle.algebra.proofs.Parts.{part}
-use Rattle.exact.specs.Grid.{Passed}
+use Rattle.exact.specs.Grid.{Ready}
 use Rattle.exact.specs.Vectors.{normalIn}
 use Rattle.boxes.specs.Boxes.{boxOf}
 use Rattle.boxes.specs.Triangles.{triangles, nine}
@@ -98,7 +98,7 @@ decide-word-requires c κs =
     let inside : i < triangles first = omega (arith, q .loop-test .taken) in
     let nine-is = part (9 * i) 9 first in (
       record {
-        passed = subst (λ (l : List ℤ). Passed 3 3 l) (sym nine-is) (p .pre .0 .sound .passed i inside);
+        ready = subst (λ (l : List ℤ). Ready 9 l) (sym nine-is) (p .pre .0 .sound .ready i inside);
         boxed = part (6 * i) 6 (p .args .bounds .now) ∙ p .pre .0 .boxed i inside ∙ ap boxOf (sym nine-is);
         normal = part (3 * i) 3 (p .args .planes .now) ∙ p .pre .0 .normal i inside ∙ ap normalIn (sym nine-is);
       },

@@ -8,7 +8,7 @@ use lib.IntN.{ℤ}
 use lib.ListN.{length}
 use Rattle.algebra.proofs.Parts.{part, length-lent}
 use Rattle.shape.proofs.VerdictLaws.{says-no}
-use Rattle.exact.specs.Grid.{Passed}
+use Rattle.exact.specs.Grid.{Ready}
 use Rattle.kernel.specs.Meeting.{Judges}
 use Rattle.exact.specs.Vectors.{normalIn}
 use Rattle.boxes.specs.Boxes.{boxesApart}
@@ -93,8 +93,8 @@ known-triangles-meet-requires c κs =
     let p = c .before .before .before .before .before in
     let a = p .args in
     let nine-is = part (9 * a .j) 9 (a .second .now) in (
-      p .pre .0 .passed,
-      subst (λ (l : List ℤ). Passed 3 3 l) (sym nine-is) (p .pre .1 .sound .passed (a .j) (p .pre .2)),
+      p .pre .0 .ready,
+      subst (λ (l : List ℤ). Ready 9 l) (sym nine-is) (p .pre .1 .sound .ready (a .j) (p .pre .2)),
       p .pre .0 .normal,
       part (3 * a .j) 3 (a .normals .now) ∙ p .pre .1 .normal (a .j) (p .pre .2) ∙ ap normalIn (sym nine-is),
     )
