@@ -6,6 +6,7 @@ use mathlib.Core.List.{List}
 use Prim.Native.Nat.{ℕ}
 use lib.IntN.{ℤ}
 use Rattle.checks.specs.Answers.{Answer, withServed}
+use Rattle.checks.specs.Rules.{FlatShapes}
 use Rattle.predicate.specs.Rules.{signRule}
 use Rattle.predicate.proofs.Unique.{rule-fixed}
 use Rattle.listing.proofs.Unique.{list-unique}
@@ -26,10 +27,11 @@ pub sign-door-unique : (n : ℕ) (points : List ℤ) (before : List ℕ) (r s : 
     Written (fourNumbers (withServed digit (signRule n points))) before s after′ → (r ≡ s) × (after ≡ after′)
 sign-door-unique n points before r s after after′ w v = written-unique w v
 
--- The same of the door of a verdict call (`zg_flat` has n = 2, k = m = 3; `zg_segment` n = 3, k = 2, m = 3; `zg_pair` n = k = m = 3).
-pub verdict-door-unique : (n k m : ℕ) (first second : List ℤ) (before : List ℕ) (r s : ℕ) (after after′ : List ℕ) →
-    VerdictWritten n k m first second before r after → VerdictWritten n k m first second before s after′ → (r ≡ s) × (after ≡ after′)
-verdict-door-unique n k m first second before r s after after′ w v =
+-- The same of the door of a verdict call (`zg_flat` refuses flat shapes and has n = 2, k = m = 3; `zg_segment` and `zg_pair` take them, with n = 3,
+-- k = 2, m = 3 and n = k = m = 3).
+pub verdict-door-unique : (flats : FlatShapes) (n k m : ℕ) (first second : List ℤ) (before : List ℕ) (r s : ℕ) (after after′ : List ℕ) →
+    VerdictWritten flats n k m first second before r after → VerdictWritten flats n k m first second before s after′ → (r ≡ s) × (after ≡ after′)
+verdict-door-unique flats n k m first second before r s after after′ w v =
     written-unique
     (subst (λ (a : Answer Bool). Written (fourNumbers (withServed verdictCode a)) before r after) (rule-fixed (w .right) (v .right)) (w .written))
     (v .written)

@@ -6,15 +6,16 @@ use mathlib.Core.List.{List}
 use Prim.Native.Nat.{ℕ}
 use lib.IntN.{ℤ}
 use Rattle.checks.specs.Answers.{Answer, withServed}
+use Rattle.checks.specs.Rules.{FlatShapes}
 use Rattle.predicate.specs.Rules.{VerdictRule}
 use Rattle.listing.specs.Rules.{ListRule}
 use Rattle.telling.specs.Numbers.{verdictCode, fourNumbers}
 use Rattle.telling.specs.Buffer.{tooShort, Written}
 
--- What the door of a verdict call promises: the four numbers are those of the one answer that is right.
-pub record VerdictWritten (n k m : ℕ) (first second : List ℤ) (before : List ℕ) (result : ℕ) (after : List ℕ) : Type 0 where
+-- What the door of a verdict call, which refuses flat shapes or takes them, promises: the four numbers are those of the one answer that is right.
+pub record VerdictWritten (flats : FlatShapes) (n k m : ℕ) (first second : List ℤ) (before : List ℕ) (result : ℕ) (after : List ℕ) : Type 0 where
   pub told : Answer Bool
-  pub right : VerdictRule n k m first second told
+  pub right : VerdictRule flats n k m first second told
   pub written : Written (fourNumbers (withServed verdictCode told)) before result after
 
 -- What the door of the listing promises of its two buffers, `buffer` for the pairs and `before` for the answer: where there is no room for an
