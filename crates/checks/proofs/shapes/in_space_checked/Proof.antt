@@ -43,9 +43,9 @@ returns c =
 
 returns-2 : tie.Need-returns-2
 returns-2 c =
-    let p = c .before .before .before in
-    let a = p .before .args in
-    passed-on _ (p .lengths-checked .ensures) (c .before .enum-told .given .1) (c .grids-checked .ensures)
+    let q = c .before .before .before in
+    let a = q .before .args in
+    passed-on _ (q .lengths-checked .ensures) (c .before .enum-told .given .1) (c .grids-checked .ensures)
     ∙ one-by-one (a .corners) (a .first .now) (a .second .now)
 
 pub in-space-checked-spec : {M : Type 1} → statement M
