@@ -17,7 +17,8 @@ use Rattle.boxes.specs.Boxes.{Sound}
 use Rattle.listing.specs.Rules.{startWithin, listLength, inputChecks}
 use Rattle.listing.proofs.ListChecks.{fine-within, fine-right-length}
 
--- A list that passed is sound, since the numbers of each triangle are the list's; and both lists of a listing are where all checks of the input are fine.
+-- A list that passed is sound, since the numbers of each triangle are the list's; and both lists of a listing are where all checks of the
+-- input are fine.
 list-sound : (side : ℕ) (numbers : List ℤ) → listLength side numbers ≡ fine → allOnGrid side numbers ≡ fine → Sound numbers
 list-sound side numbers right on = record {
   few = omega (arith, fine-right-length numbers side right .1);

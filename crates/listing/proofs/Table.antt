@@ -1,7 +1,6 @@
 -- Each reason of a listing is given exactly in the case that document 01's table states, with the side and the place stated there.
 -- `ListCase` is the table and `list-exactly` the theorem; between them is its proof. No case has the number 2, which a listing never gives
--- (`list-two-never`). The words are those of Order and ListChecks.
--- Assumes nothing.
+-- (`list-two-never`). The words are those of Order and of ListChecks. Assumes nothing.
 use mathlib.Core.Path.{_≡_, refl, sym, ap, _∙_, subst₃}
 use mathlib.Core.List.{List}
 use mathlib.Core.Logic.{_↔_, _⊎_, inl, inr}
@@ -166,6 +165,7 @@ module _ (a b : List ℤ) (buffer : List ℕ) (start : ℕ) where
             let given = from-case (s .number) (s .side) (s .place) (s .found) in
             subst₃ ListCase (sym (given .0) ∙ e .0) (sym (given .1) ∙ e .1) (sym (given .2) ∙ e .2) (s .found)
 
+    -- It never gives 2.
     pub list-two-never : numberOf answer ≡ 2 → ⊥
     list-two-never two = no-case two (list-exactly (numberOf answer) (sideOf answer) (placeOf answer) .1 (refl, refl, refl))
       where

@@ -21,8 +21,8 @@ valueRule n numbers =
 abbrev pub signRule : ℕ → List ℤ → Answer ℤ
 signRule n numbers = withServed sign (valueRule n numbers)
 
--- A verdict call, which refuses flat shapes or takes them: what the checks refuse it refuses, otherwise it serves a verdict, yes (true) or no; and where the checks
--- refuse nothing, the verdict is yes exactly when the two shapes have a point in common.
+-- A verdict call, which refuses flat shapes or takes them: what the checks refuse it refuses, otherwise it serves a verdict, yes (true) or
+-- no; and where the checks refuse nothing, the verdict is yes exactly when the two shapes have a point in common.
 pub record VerdictRule (flats : FlatShapes) (n k m : ℕ) (first second : List ℤ) (answer : Answer Bool) : Type 0 where
   pub verdict : Bool
   pub told : answer ≡ (pairChecks flats n k m first second then served verdict)
