@@ -6,7 +6,7 @@ pub mod lists;
 pub mod plates;
 mod surfaces;
 
-use crate::ordinary::{self, GRID, TRIANGLE_NUMBERS};
+use crate::ordinary::{has_area, GRID, TRIANGLE_NUMBERS};
 use crate::random::Random;
 
 /// This many of each kind.
@@ -23,7 +23,7 @@ pub struct Pair {
     pub second: List,
 }
 
-/// Pairs that are served, all of one kind.
+/// Pairs of triangles that are not flat, all of one kind.
 pub struct Input {
     pub name: &'static str,
     pub pairs: Vec<Pair>,
@@ -33,24 +33,24 @@ pub fn timed() -> [Input; 3] {
     [
         Input {
             name: "random over the whole grid",
-            pairs: served_pairs(1, |random| box_pair(random, -GRID, GRID)),
+            pairs: pairs_with_area(1, |random| box_pair(random, -GRID, GRID)),
         },
         Input {
             name: "small triangles spread over the grid",
-            pairs: served_pairs(2, small_pair),
+            pairs: pairs_with_area(2, small_pair),
         },
         Input {
             name: "a tiny grid, many touching or in one plane",
-            pairs: served_pairs(3, tiny_pair),
+            pairs: pairs_with_area(3, tiny_pair),
         },
     ]
 }
 
-fn served_pairs(seed: u64, any_pair: impl Fn(&mut Random) -> Pair) -> Vec<Pair> {
+fn pairs_with_area(seed: u64, any_pair: impl Fn(&mut Random) -> Pair) -> Vec<Pair> {
     let mut random = Random::new(seed, 0);
-    let is_served = |pair: &Pair| ordinary::pair::<i128>(&pair.first, &pair.second).number == 0;
+    let have_area = |pair: &Pair| has_area(&pair.first) && has_area(&pair.second);
     let pairs = std::iter::repeat_with(|| any_pair(&mut random));
-    pairs.filter(is_served).take(PAIRS).collect()
+    pairs.filter(have_area).take(PAIRS).collect()
 }
 
 fn box_list(random: &mut Random, low: i32, high: i32) -> List {
@@ -94,8 +94,8 @@ fn tiny_pair(random: &mut Random) -> Pair {
     pair
 }
 
-/// Two lists, each with no fault or with one or several of: a wrong length, a number off the grid,
-/// corners on one line.
+/// Two lists, each with no fault or with one or several of: a wrong length, a number off the grid. Many
+/// have their corners on one line, which is no fault.
 pub fn faulty() -> Vec<[Vec<i32>; 2]> {
     let mut random = Random::new(4, 0);
     let any_pair = || [0; 2].map(|_| faulty_list(&mut random));

@@ -1,7 +1,8 @@
 //! The yardstick: an ordinary pair test, written for reading. It takes what `zg_pair` takes, makes
 //! the same checks in the same order, decides by the same method ("The method of document 000" in
-//! document 01, step by step) and gives the same four numbers. The ordinary listing, in `listing`,
-//! stands to `zg_list` in the same way, and the ordinary plate, in `plate`, to `zg_plate`.
+//! document 01, step by step, and of flat triangles the one in `thin`) and gives the same four numbers.
+//! The ordinary listing, in `listing`, stands to `zg_list` in the same way, and the ordinary plate, in
+//! `plate`, to `zg_plate`.
 //!
 //! Every difference, product and determinant is a number of the type `W`: i128, or i64, in which
 //! everything on the grid fits as well.
@@ -9,6 +10,7 @@
 mod flat;
 pub mod listing;
 pub mod plate;
+mod thin;
 
 use std::cmp::Ordering::{Equal, Greater, Less};
 use std::ops::{Add, Mul, Sub};
@@ -35,6 +37,13 @@ impl Whole for i128 {}
 type Point = [i32; 3];
 type Triangle = [Point; 3];
 
+/// A triangle whose numbers are on the grid. Its corners are looked at once for lying on one line, and
+/// not once a pair.
+struct Shape {
+    corners: Triangle,
+    is_flat: bool,
+}
+
 /// Whether the triangles of two lists have a point in common, or why that can't be answered.
 /// Not inlined, so that it is called as a library's function is.
 #[inline(never)]
@@ -45,9 +54,9 @@ pub fn pair<W: Whole>(first: &[i32], second: &[i32]) -> Answer {
 fn checked_verdict<W: Whole>(first: &[i32], second: &[i32]) -> Result<bool, Answer> {
     check_length(first, 0)?;
     check_length(second, 1)?;
-    let first = checked_triangle::<W>(first, 0, 0)?;
-    let second = checked_triangle::<W>(second, 1, 0)?;
-    Ok(meet::<W>(first, second))
+    let first = checked_shape::<W>(first, 0, 0)?;
+    let second = checked_shape::<W>(second, 1, 0)?;
+    Ok(shapes_meet::<W>(&first, &second))
 }
 
 fn answered(value: Result<u64, Answer>) -> Answer {
@@ -82,16 +91,19 @@ fn check_length(list: &[i32], side: u64) -> Result<(), Answer> {
 }
 
 /// The triangle that nine numbers give, which are those at this index of their list.
-fn checked_triangle<W: Whole>(numbers: &[i32], side: u64, index: usize) -> Result<Triangle, Answer> {
+fn checked_shape<W: Whole>(numbers: &[i32], side: u64, index: usize) -> Result<Shape, Answer> {
     if let Some(place) = numbers.iter().position(|number| !(-GRID..=GRID).contains(number)) {
         return Err(refusal(1, side, TRIANGLE_NUMBERS * index + place));
     }
     let corner = |at: usize| [numbers[at], numbers[at + 1], numbers[at + 2]];
-    let triangle = [corner(0), corner(3), corner(6)];
-    if normal::<W>(triangle) == [W::from(0); 3] {
-        return Err(refusal(2, side, index));
-    }
-    Ok(triangle)
+    let corners = [corner(0), corner(3), corner(6)];
+    let is_flat = normal::<W>(corners) == [W::from(0); 3];
+    Ok(Shape { corners, is_flat })
+}
+
+/// Whether nine numbers give a triangle on the grid that is not flat.
+pub fn has_area(numbers: &[i32; TRIANGLE_NUMBERS]) -> bool {
+    checked_shape::<i64>(numbers, 0, 0).is_ok_and(|shape| !shape.is_flat)
 }
 
 // ---- The determinants ----
@@ -116,6 +128,14 @@ fn side<W: Whole>(a: Point, b: Point, c: Point, d: Point) -> W {
 }
 
 // ---- The method ----
+
+fn shapes_meet<W: Whole>(first: &Shape, second: &Shape) -> bool {
+    if first.is_flat || second.is_flat {
+        thin::meet::<W>(first, second)
+    } else {
+        meet::<W>(first.corners, second.corners)
+    }
+}
 
 /// How a triangle stands to the plane of another.
 enum Stand {
@@ -176,16 +196,23 @@ fn reordered(triangle: Triangle, first_corner: usize, swapped: bool) -> Triangle
     }
 }
 
-/// Drops a coordinate at which the normal is not zero.
 fn meet_in_one_plane<W: Whole>(first: Triangle, second: Triangle) -> bool {
-    let [x, y, _] = normal::<W>(first);
-    let (k, l) = if x != W::from(0) {
-        (1, 2)
+    let kept = coordinates_kept::<W>(first);
+    flat::meet::<W>(flattened(first, kept), flattened(second, kept))
+}
+
+/// The two coordinates that are left where one is dropped at which the triangle's normal is not zero.
+fn coordinates_kept<W: Whole>(triangle: Triangle) -> [usize; 2] {
+    let [x, y, _] = normal::<W>(triangle);
+    if x != W::from(0) {
+        [1, 2]
     } else if y != W::from(0) {
-        (0, 2)
+        [0, 2]
     } else {
-        (0, 1)
-    };
-    let flattened = |[p, q, r]: Triangle| [[p[k], p[l]], [q[k], q[l]], [r[k], r[l]]];
-    flat::meet::<W>(flattened(first), flattened(second))
+        [0, 1]
+    }
+}
+
+fn flattened<const N: usize>(points: [Point; N], [k, l]: [usize; 2]) -> [flat::Point; N] {
+    points.map(|point| [point[k], point[l]])
 }

@@ -1,10 +1,10 @@
-//! The lists: five kinds that are timed, those of random triangles each from a seed of its own, and
+//! The lists: six kinds that are timed, those of random triangles each from a seed of its own, and
 //! faulty ones.
 
-use super::surfaces::{cube, sphere};
+use super::surfaces::{cube, sphere, with_slivers};
 use super::{box_list, faulty_triangle, spread, List, PAIRS, SMALL_HALF, TINY_END};
 use crate::ordinary::listing::MOST_TRIANGLES;
-use crate::ordinary::{self, GRID, TRIANGLE_NUMBERS};
+use crate::ordinary::{has_area, GRID, TRIANGLE_NUMBERS};
 use crate::random::Random;
 
 /// Where most pairs have boxes with a point in common, so that the pair test has to decide.
@@ -21,7 +21,9 @@ pub struct Input {
     pub goal: f64,
 }
 
-pub fn timed() -> [Input; 5] {
+pub fn timed() -> [Input; 6] {
+    let [sphere, other_sphere] = [[0, 0, 0], [170_000, 110_000, 70_000]].map(|middle| sphere(middle, 250_000));
+    let [slivers, other_slivers] = [&sphere, &other_sphere].map(|list| with_slivers(list));
     [
         of_random(5, "random over the whole grid", DENSE_GOAL, |random| {
             box_list(random, -GRID, GRID)
@@ -35,8 +37,8 @@ pub fn timed() -> [Input; 5] {
         ),
         Input {
             name: "two spheres that overlap",
-            first: sphere([0, 0, 0], 250_000),
-            second: sphere([170_000, 110_000, 70_000], 250_000),
+            first: sphere,
+            second: other_sphere,
             goal: SPARSE_GOAL,
         },
         Input {
@@ -45,25 +47,27 @@ pub fn timed() -> [Input; 5] {
             second: cube([35_000, 52_000, 180_000], 20_000),
             goal: SPARSE_GOAL,
         },
+        Input {
+            name: "slivers: the spheres, one triangle in ten a segment or a point",
+            first: slivers,
+            second: other_slivers,
+            goal: SPARSE_GOAL,
+        },
     ]
 }
 
 fn of_random(seed: u64, name: &'static str, goal: f64, any_triangle: impl Fn(&mut Random) -> List) -> Input {
     let mut random = Random::new(seed, 0);
-    let mut served_list = || {
+    let mut list_with_area = || {
         let triangles = std::iter::repeat_with(|| any_triangle(&mut random));
-        triangles.filter(is_served).take(MOST_TRIANGLES).flatten().collect()
+        triangles.filter(has_area).take(MOST_TRIANGLES).flatten().collect()
     };
     Input {
         name,
-        first: served_list(),
-        second: served_list(),
+        first: list_with_area(),
+        second: list_with_area(),
         goal,
     }
-}
-
-fn is_served(triangle: &List) -> bool {
-    ordinary::pair::<i128>(triangle, triangle).number == 0
 }
 
 pub fn small_triangle(random: &mut Random) -> List {
@@ -108,7 +112,7 @@ pub fn faulty() -> Vec<Question> {
     std::iter::repeat_with(any_question).take(PAIRS).collect()
 }
 
-/// Every second list or so has sound triangles only, but for one that is flat by chance.
+/// Every second list or so has triangles on the grid only, a few of them flat.
 fn faulty_list(random: &mut Random) -> Vec<i32> {
     let any_triangle = if random.once_in(2) {
         faulty_triangle

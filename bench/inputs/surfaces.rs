@@ -1,5 +1,8 @@
 //! Lists that are closed surfaces: a cube whose faces are cut into small triangles, and a sphere, for
-//! which the corners of those triangles are pushed outwards.
+//! which the corners of those triangles are pushed outwards; and such a list with slivers in it, as
+//! scans have them.
+
+use crate::ordinary::TRIANGLE_NUMBERS;
 
 type Point = [i32; 3];
 
@@ -45,4 +48,26 @@ fn cell((axis, level): (usize, i32), u: i32, v: i32) -> [Point; 4] {
         corner[(axis + 2) % 3] = v;
         corner
     })
+}
+
+/// One triangle in so many is made a sliver.
+const ONE_SLIVER_IN: usize = 10;
+
+/// The list with slivers in it: the first edge with a corner doubled, the same with a corner between the
+/// other two, and the first corner alone, by turns.
+pub fn with_slivers(list: &[i32]) -> Vec<i32> {
+    let mut slivered = list.to_vec();
+    let triangles = slivered.chunks_exact_mut(TRIANGLE_NUMBERS);
+    for (turn, triangle) in triangles.step_by(ONE_SLIVER_IN).enumerate() {
+        let [a, b] = [0, 3].map(|at| [triangle[at], triangle[at + 1], triangle[at + 2]]);
+        let half_step = [0, 1, 2].map(|k| (b[k] - a[k]) / 2);
+        let along = |steps: i32| [0, 1, 2].map(|k| a[k] + steps * half_step[k]);
+        let sliver = match turn % 3 {
+            0 => [a, b, b],
+            1 => [a, along(2), along(1)],
+            _ => [a; 3],
+        };
+        triangle.copy_from_slice(sliver.as_flattened());
+    }
+    slivered
 }

@@ -1,14 +1,15 @@
 //! The flat test: whether two triangles in the plane, neither with its corners on one line, have a
 //! point in common. The corners p1, q1, r1 and p2, q2, r2 are document 000's, and so are the tests,
-//! but where docs/DECISIONS.md names a fault in its words.
+//! but where docs/DECISIONS.md names a fault in its words. A segment and such a triangle are told apart
+//! by a line between them.
 
 use super::Whole;
 
-type Point = [i32; 2];
+pub type Point = [i32; 2];
 type Triangle = [Point; 3];
 
 /// [a,b,c]: above zero where a, b, c turn left.
-fn turn<W: Whole>(a: Point, b: Point, c: Point) -> W {
+pub fn turn<W: Whole>(a: Point, b: Point, c: Point) -> W {
     let minus = |a: i32, b: i32| W::from(a) - W::from(b);
     minus(a[0], c[0]) * minus(b[1], c[1]) - minus(a[1], c[1]) * minus(b[0], c[0])
 }
@@ -78,4 +79,15 @@ fn past_two<W: Whole>([p1, q1, r1]: Triangle, [p2, q2, r2]: Triangle) -> bool {
 /// Whether p2 is in the first triangle, where it is known to be left of p1 to q1.
 fn contains_corner<W: Whole>([p1, q1, r1]: Triangle, p2: Point) -> bool {
     !right::<W>(p1, p2, r1) && !right::<W>(q1, r1, p2)
+}
+
+/// Whether a segment, its ends equal or not, has a point in common with a triangle. Where it has none,
+/// the line of one of the four edges, the segment's or a triangle's, has the other shape strictly on
+/// one side, and of a triangle's on the right.
+pub fn segment_meets<W: Whole>([p, q]: [Point; 2], triangle: Triangle) -> bool {
+    let [a, b, c] = in_left_order::<W>(triangle);
+    let beyond = |from: Point, to: Point| right::<W>(from, to, p) && right::<W>(from, to, q);
+    let all_right = |from: Point, to: Point| [a, b, c].iter().all(|&corner| right::<W>(from, to, corner));
+    let is_apart = beyond(a, b) || beyond(b, c) || beyond(c, a) || all_right(p, q) || all_right(q, p);
+    !is_apart
 }

@@ -1,7 +1,7 @@
 //! The ordinary listing: checks each triangle once and then asks the pair test about every pair.
 //! It looks at no boxes.
 
-use super::{answered, checked_triangle, meet, refusal, Answer, Triangle, Whole, TRIANGLE_NUMBERS};
+use super::{answered, checked_shape, refusal, shapes_meet, Answer, Shape, Whole, TRIANGLE_NUMBERS};
 
 /// A list has at most so many triangles.
 pub const MOST_TRIANGLES: usize = 1_024;
@@ -18,8 +18,8 @@ fn checked_count<W: Whole>(first: &[i32], second: &[i32], buffer: &mut [u32], st
     let room = buffer.get_mut(start..).ok_or_else(|| refusal(4, 0, length))?;
     check_length(first, 0)?;
     check_length(second, 1)?;
-    let first = checked_triangles::<W>(first, 0)?;
-    let second = checked_triangles::<W>(second, 1)?;
+    let first = checked_shapes::<W>(first, 0)?;
+    let second = checked_shapes::<W>(second, 1)?;
     // A refusal leaves the buffer as it is, so nothing is written before the pairs are counted.
     let pairs = meeting_pairs::<W>(&first, &second);
     room.get_mut(..2 * pairs.len())
@@ -36,18 +36,18 @@ fn check_length(list: &[i32], side: u64) -> Result<(), Answer> {
     }
 }
 
-fn checked_triangles<W: Whole>(list: &[i32], side: u64) -> Result<Vec<Triangle>, Answer> {
+fn checked_shapes<W: Whole>(list: &[i32], side: u64) -> Result<Vec<Shape>, Answer> {
     let triangles = list.chunks_exact(TRIANGLE_NUMBERS).enumerate();
     triangles
-        .map(|(index, numbers)| checked_triangle::<W>(numbers, side, index))
+        .map(|(index, numbers)| checked_shape::<W>(numbers, side, index))
         .collect()
 }
 
-fn meeting_pairs<W: Whole>(first: &[Triangle], second: &[Triangle]) -> Vec<[u32; 2]> {
+fn meeting_pairs<W: Whole>(first: &[Shape], second: &[Shape]) -> Vec<[u32; 2]> {
     let mut pairs = Vec::new();
-    for (i, &one) in first.iter().enumerate() {
-        for (j, &other) in second.iter().enumerate() {
-            if meet::<W>(one, other) {
+    for (i, one) in first.iter().enumerate() {
+        for (j, other) in second.iter().enumerate() {
+            if shapes_meet::<W>(one, other) {
                 pairs.push([i as u32, j as u32]);
             }
         }

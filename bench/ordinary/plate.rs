@@ -6,7 +6,7 @@
 pub mod kept;
 pub mod recounted;
 
-use super::{answered, checked_triangle, meet, refusal, Answer, Point, Triangle, GRID, TRIANGLE_NUMBERS};
+use super::{answered, checked_shape, meet, refusal, Answer, Point, Triangle, GRID, TRIANGLE_NUMBERS};
 use std::collections::VecDeque;
 
 pub const SLOTS: usize = 64;
@@ -129,7 +129,7 @@ impl<S: Slots> Plate<S> {
     fn place(&mut self, slot: u32, part: u32, numbers: &[i32]) -> Result<u64, Answer> {
         let slot = checked_slot(slot)?;
         check_part(part, 0)?;
-        let triangle = checked_triangle::<i64>(numbers, 0, 0)?;
+        let triangle = checked_triangle(numbers)?;
         if self.slots.held()[slot].is_some() {
             return Err(refusal(8, 0, slot));
         }
@@ -195,6 +195,16 @@ impl<S: Slots> Plate<S> {
             Some(_) => Ok(()),
             None => Err(refusal(10, side, part as usize)),
         }
+    }
+}
+
+/// A plate takes no flat triangle.
+fn checked_triangle(numbers: &[i32]) -> Result<Triangle, Answer> {
+    let shape = checked_shape::<i64>(numbers, 0, 0)?;
+    if shape.is_flat {
+        Err(refusal(2, 0, 0))
+    } else {
+        Ok(shape.corners)
     }
 }
 
