@@ -39,6 +39,7 @@ type Triangle = [Point; 3];
 
 /// A triangle whose numbers are on the grid. Its corners are looked at once for lying on one line, and
 /// not once a pair.
+#[derive(Clone, Copy)]
 struct Shape {
     corners: Triangle,
     is_flat: bool,
@@ -56,7 +57,7 @@ fn checked_verdict<W: Whole>(first: &[i32], second: &[i32]) -> Result<bool, Answ
     check_length(second, 1)?;
     let first = checked_shape::<W>(first, 0, 0)?;
     let second = checked_shape::<W>(second, 1, 0)?;
-    Ok(shapes_meet::<W>(&first, &second))
+    Ok(shapes_meet::<W>(first, second))
 }
 
 fn answered(value: Result<u64, Answer>) -> Answer {
@@ -129,9 +130,9 @@ fn side<W: Whole>(a: Point, b: Point, c: Point, d: Point) -> W {
 
 // ---- The method ----
 
-fn shapes_meet<W: Whole>(first: &Shape, second: &Shape) -> bool {
+fn shapes_meet<W: Whole>(first: Shape, second: Shape) -> bool {
     if first.is_flat || second.is_flat {
-        thin::meet::<W>(first, second)
+        thin::meet::<W>(&first, &second)
     } else {
         meet::<W>(first.corners, second.corners)
     }

@@ -45,8 +45,8 @@ fn checked_shapes<W: Whole>(list: &[i32], side: u64) -> Result<Vec<Shape>, Answe
 
 fn meeting_pairs<W: Whole>(first: &[Shape], second: &[Shape]) -> Vec<[u32; 2]> {
     let mut pairs = Vec::new();
-    for (i, one) in first.iter().enumerate() {
-        for (j, other) in second.iter().enumerate() {
+    for (i, &one) in first.iter().enumerate() {
+        for (j, &other) in second.iter().enumerate() {
             if shapes_meet::<W>(one, other) {
                 pairs.push([i as u32, j as u32]);
             }
