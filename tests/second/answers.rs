@@ -1,6 +1,7 @@
 //! Own answers to every call, refusals included, as document 01 asks for them.
 
 pub mod clashes;
+pub mod faults;
 pub mod listing;
 pub mod plate;
 
@@ -8,7 +9,9 @@ use crate::geometry::axes::{self, Overlap};
 use crate::geometry::clipping::{self, Reach};
 use crate::geometry::edges::{self, Contact};
 use crate::geometry::signs;
+use crate::geometry::thin::{self, Kind};
 use crate::geometry::{Point, Segment, Space, Triangle};
+use faults::{first_refusal, flat_triangle_faults, point_faults, segment_faults, triangle_faults, ListFaults};
 use listing::ListingFindings;
 
 pub const GRID: i32 = 524_288;
@@ -69,38 +72,6 @@ impl From<Answer> for Outcome {
     }
 }
 
-/// Everything wrong with one list, also what a weightier fault hides.
-#[derive(Clone, Default)]
-pub struct ListFaults {
-    pub length: Option<u64>,
-    /// Shape by shape; of one shape a coordinate off the grid before its being flat.
-    pub shapes: Vec<ShapeFault>,
-}
-
-#[derive(Clone, Copy)]
-pub struct ShapeFault {
-    pub number: u64,
-    pub place: u64,
-    /// Which shape of the list has it.
-    pub shape: usize,
-}
-
-impl ListFaults {
-    /// The refusal number that this list would get if it were the only bad one.
-    pub fn number_alone(&self) -> u64 {
-        match (self.length, self.shapes.first()) {
-            (Some(_), _) => WRONG_LENGTH,
-            (None, Some(fault)) => fault.number,
-            (None, None) => 0,
-        }
-    }
-
-    /// The first bad shape is off the grid and flat at once.
-    pub fn has_twofold_shape(&self) -> bool {
-        matches!(&self.shapes[..], [one, other, ..] if one.shape == other.shape)
-    }
-}
-
 /// How two shapes lie, or what a listing had to deal with.
 pub enum Findings {
     Plane(PlaneFindings),
@@ -116,6 +87,11 @@ pub struct PlaneFindings {
 
 /// How two shapes in space lie, by both methods, and what makes the pair easy or hard.
 pub struct SpaceFindings {
+    pub kinds: [Kind; 2],
+    /// Whether one of them is less than it could be.
+    pub has_flat: bool,
+    /// How many dimensions both have together: 0 a point, 1 a line, 2 a plane, 3 space.
+    pub span: usize,
     /// How much of some edge of the first lies in the second, and of the second in the first.
     pub reaches: [Reach; 2],
     pub overlap: Overlap,
@@ -207,13 +183,9 @@ pub fn segment(first: &[i32], second: &[i32]) -> Opinion {
         return Opinion::refusing(answer, faults);
     }
     let (first, second): (Segment, Triangle) = (points_of(first), points_of(second));
-    let findings = SpaceFindings {
-        reaches: [clipping::reach(&first, &second), Reach::Nothing],
-        overlap: axes::overlap(&first, &second),
-        sides: sides(&first, &second).to_vec(),
-        seen_along: seen_along(&second),
-    };
-    Opinion::serving_space(findings, faults)
+    let reaches = [clipping::reach(&first, &second), Reach::Nothing];
+    let sides = sides(&first, &second).to_vec();
+    Opinion::serving_space(space_findings(&first, &second, reaches, sides), faults)
 }
 
 pub fn pair(first: &[i32], second: &[i32]) -> Opinion {
@@ -222,13 +194,25 @@ pub fn pair(first: &[i32], second: &[i32]) -> Opinion {
         return Opinion::refusing(answer, faults);
     }
     let (first, second): (Triangle, Triangle) = (points_of(first), points_of(second));
-    let findings = SpaceFindings {
-        reaches: reaches(&first, &second),
-        overlap: axes::overlap(&first, &second),
-        sides: [sides(&first, &second), sides(&second, &first)].concat(),
-        seen_along: seen_along(&second),
-    };
-    Opinion::serving_space(findings, faults)
+    let sides = [sides(&first, &second), sides(&second, &first)].concat();
+    Opinion::serving_space(space_findings(&first, &second, reaches(&first, &second), sides), faults)
+}
+
+fn space_findings<const N: usize>(
+    first: &[Space; N],
+    second: &Triangle,
+    reaches: [Reach; 2],
+    sides: Vec<i8>,
+) -> SpaceFindings {
+    SpaceFindings {
+        kinds: [thin::kind_of(first), thin::kind_of(second)],
+        has_flat: thin::is_flat(first) || thin::is_flat(second),
+        span: thin::span_of(first, second),
+        reaches,
+        overlap: axes::overlap(first, second),
+        sides,
+        seen_along: seen_along(second),
+    }
 }
 
 fn reaches(first: &Triangle, second: &Triangle) -> [Reach; 2] {
@@ -242,63 +226,6 @@ fn sides<const N: usize>(corners: &[Space; N], triangle: &Triangle) -> [i8; N] {
 
 fn seen_along(triangle: &Triangle) -> [bool; 3] {
     [0, 1, 2].map(|axis| signs::shadow_turn(triangle, axis) != 0)
-}
-
-/// Wrong lengths come first, through all lists; then the faults of each list's shapes, list by list.
-fn first_refusal(lists: &[ListFaults]) -> Option<Answer> {
-    for (side, faults) in (0..).zip(lists) {
-        if let Some(length) = faults.length {
-            return Some(Answer::refused(WRONG_LENGTH, side, length));
-        }
-    }
-    for (side, faults) in (0..).zip(lists) {
-        if let Some(fault) = faults.shapes.first() {
-            return Some(Answer::refused(fault.number, side, fault.place));
-        }
-    }
-    None
-}
-
-fn point_faults(list: &[i32], wanted: usize) -> ListFaults {
-    list_faults(list, wanted, list.len() == wanted, |_| false)
-}
-
-fn flat_triangle_faults(list: &[i32]) -> ListFaults {
-    one_shape_faults(list, |[a, b, c]| signs::turn_by_border_sum(a, b, c) == 0)
-}
-
-fn segment_faults(list: &[i32]) -> ListFaults {
-    one_shape_faults(list, |[p, q]: Segment| p == q)
-}
-
-pub fn triangle_faults(list: &[i32]) -> ListFaults {
-    one_shape_faults(list, |corners| signs::is_on_one_line(&corners))
-}
-
-/// Of a list that should hold one shape.
-fn one_shape_faults<const D: usize, const N: usize>(list: &[i32], is_flat: fn([Point<D>; N]) -> bool) -> ListFaults {
-    list_faults(list, D * N, list.len() == D * N, |shape| is_flat(points_of(shape)))
-}
-
-/// Of a list of shapes, so many numbers each. What is left over at its end counts for its length and the grid only.
-fn list_faults(list: &[i32], shape_numbers: usize, right_length: bool, is_flat: impl Fn(&[i32]) -> bool) -> ListFaults {
-    let mut shapes = Vec::new();
-    for (shape, numbers) in list.chunks(shape_numbers).enumerate() {
-        let mut found = |number, place: usize| {
-            let place = place as u64;
-            shapes.push(ShapeFault { number, place, shape });
-        };
-        if let Some(position) = numbers.iter().position(|n| *n < -GRID || *n > GRID) {
-            found(OFF_GRID, shape_numbers * shape + position);
-        }
-        if numbers.len() == shape_numbers && is_flat(numbers) {
-            found(FLAT_SHAPE, shape);
-        }
-    }
-    ListFaults {
-        length: (!right_length).then_some(list.len() as u64),
-        shapes,
-    }
 }
 
 fn points_of<const D: usize, const N: usize>(list: &[i32]) -> [Point<D>; N] {

@@ -27,14 +27,19 @@ const THROUGH_A: [i32; 9] = [1, 1, -1, 1, 1, 1, 5, 5, 1];
 const ABOVE_A: [i32; 9] = [1, 1, 1, 2, 1, 1, 1, 2, 1];
 const AT_CORNER_OF_A: [i32; 9] = [4, 0, 0, 5, 0, 1, 5, 1, 1];
 const L: i32 = 524_288;
+/// Flat triangles: the first of row 12, and one from corner to corner of the grid.
+const LINE: [i32; 9] = [0, 0, 0, 1, 1, 1, 2, 2, 2];
+const ACROSS: [i32; 9] = [-L, -L, -L, L, L, L, 0, 0, 0];
 
 pub fn rows() -> Vec<Row> {
     let mut rows = flat_rows();
     rows.extend(space_rows());
     rows.extend(rows_of_flat_shapes());
+    rows.extend(rows_of_wires_and_pins());
     rows.extend(rows_at_the_end_of_the_grid());
     rows.extend(space_rows_at_the_end_of_the_grid());
     rows.extend(listing_rows());
+    rows.extend(listing_rows_of_flat_shapes());
     rows.extend(rows_of_bad_lists());
     rows.extend(rows_of_empty_lists());
     rows.extend(rows_of_the_longest_lists());
@@ -78,18 +83,66 @@ fn space_rows() -> Vec<Row> {
     ]
 }
 
-/// Row 12, in each call and each list that knows flat shapes.
+/// Row 12, in each call and each list: the flat test refuses it, the calls in space serve it.
 fn rows_of_flat_shapes() -> Vec<Row> {
-    let (line, flat_line) = ([0, 0, 0, 1, 1, 1, 2, 2, 2], [0, 0, 1, 1, 2, 2]);
-    let (first, second) = (Answer::refused(2, 0, 0), Answer::refused(2, 1, 0));
+    let flat_line = [0, 0, 1, 1, 2, 2];
     vec![
-        flat("12", flat_line, FLAT_A, first),
-        flat("12 with the lists traded", FLAT_A, flat_line, second),
-        segment("12 with a segment", [1, 1, 1, 1, 1, 1], A, first),
-        segment("12 with a segment and the line", [0, 0, 0, 1, 0, 0], line, second),
-        pair("12", line, A, first),
-        pair("12 with the lists traded", A, line, second),
+        flat("12", flat_line, FLAT_A, Answer::refused(2, 0, 0)),
+        flat("12 with the lists traded", FLAT_A, flat_line, Answer::refused(2, 1, 0)),
+        segment("12 with a segment", [0, 0, 0, 1, 0, 0], LINE, MEETING),
+        segment("a segment beside the line", [1, 0, 0, 2, 0, 0], LINE, APART),
+        segment("a pin above A", [1, 1, 1, 1, 1, 1], A, APART),
+        segment("a pin in A", [1, 1, 0, 1, 1, 0], A, MEETING),
+        segment("a pin on the line", [1, 1, 1, 1, 1, 1], LINE, MEETING),
+        segment("a pin on the line, beyond its end", [3, 3, 3, 3, 3, 3], LINE, APART),
+        segment("a pin and a pin", [5, 6, 7, 5, 6, 7], pin([5, 6, 7]), MEETING),
+        segment("a pin and another", [5, 6, 7, 5, 6, 7], pin([5, 6, 8]), APART),
+        pair("12", LINE, A, MEETING),
+        pair("12 with the lists traded", A, LINE, MEETING),
     ]
+}
+
+/// Wires and pins as triangles, against A and against each other.
+fn rows_of_wires_and_pins() -> Vec<Row> {
+    vec![
+        pair("a needle through A", A, [1, 1, -1, 1, 1, 3, 1, 1, 1], MEETING),
+        pair("a needle beside A", A, [3, 3, -1, 3, 3, 3, 3, 3, 1], APART),
+        pair("a pin on an edge of A", pin([2, 2, 0]), A, MEETING),
+        pair("a pin in A's plane, a step off", pin([3, 2, 0]), A, APART),
+        pair("a pin above A, a step off", pin([1, 1, 1]), A, APART),
+        pair("a wire along an edge of A", A, [3, 0, 0, 1, 0, 0, 1, 0, 0], MEETING),
+        pair("a wire that goes on from A", A, [4, 0, 0, 6, 0, 0, 5, 0, 0], MEETING),
+        pair("a wire on the line of an edge", A, [5, 0, 0, 7, 0, 0, 6, 0, 0], APART),
+        pair("a wire in A", [1, 1, 0, 1, 2, 0, 1, 2, 0], A, MEETING),
+        pair("wires that cross", LINE, [0, 2, 1, 2, 0, 1, 1, 1, 1], MEETING),
+        pair("wires that pass each other", LINE, [0, 2, 2, 2, 0, 2, 1, 1, 2], APART),
+        pair("wires that would cross", LINE, [0, 4, 2, 1, 3, 2, 1, 3, 2], APART),
+        pair(
+            "wires that cross at no whole point",
+            [0, 0, 5, 1, 1, 5, 1, 1, 5],
+            [0, 1, 5, 0, 1, 5, 1, 0, 5],
+            MEETING,
+        ),
+        pair("wires that overlap", LINE, [1, 1, 1, 3, 3, 3, 1, 1, 1], MEETING),
+        pair("wires end to end", LINE, [2, 2, 2, 3, 3, 3, 4, 4, 4], MEETING),
+        pair("wires on one line", LINE, [3, 3, 3, 4, 4, 4, 5, 5, 5], APART),
+        pair("wires side by side", LINE, [0, 0, 1, 1, 1, 2, 2, 2, 3], APART),
+        pair("a pin on a wire", LINE, pin([1, 1, 1]), MEETING),
+        pair("a pin beside a wire", LINE, pin([1, 1, 2]), APART),
+        pair("a pin and the same pin", pin([-L, L, 0]), pin([-L, L, 0]), MEETING),
+        pair("a pin and another", pin([-L, L, 0]), pin([-L, L, 1]), APART),
+        pair("wires across the grid", ACROSS, [-L, L, -L, L, -L, L, 0, 0, 0], MEETING),
+        pair(
+            "wires across the grid that just miss",
+            ACROSS,
+            [-L, L, 1 - L, L, -L, L, L, -L, L],
+            APART,
+        ),
+    ]
+}
+
+fn pin([x, y, z]: [i32; 3]) -> [i32; 9] {
+    [x, y, z, x, y, z, x, y, z]
 }
 
 /// Row 13: 524,288 is served and 524,289 refused, in each call and each list, at both ends.
@@ -151,38 +204,83 @@ fn listing_rows() -> Vec<Row> {
     ]
 }
 
-/// Rows 12 and 13 in a listing, in the second triangle of a list; and which of two faults is named.
+/// Row 12 in a listing, and flat triangles among others and alone.
+fn listing_rows_of_flat_shapes() -> Vec<Row> {
+    let row = |name, first: &[[i32; 9]], second: &[[i32; 9]], pairs| {
+        list(
+            name,
+            JudgedLists::new(first.concat(), second.concat()),
+            (8, 0),
+            listed(pairs),
+        )
+    };
+    let (needle, beside) = ([1, 1, -1, 1, 1, 3, 1, 1, 1], pin([3, 2, 0]));
+    vec![
+        row("12", &[A, LINE], &[A], vec![[0, 0], [1, 0]]),
+        row("12 with the lists traded", &[A], &[A, LINE], vec![[0, 0], [0, 1]]),
+        row("12 alone", &[LINE], &[LINE], vec![[0, 0]]),
+        row(
+            "a pin, a needle, a plate",
+            &[beside, needle],
+            &[A, ABOVE_A],
+            vec![[1, 0], [1, 1]],
+        ),
+        row(
+            "pins and wires",
+            &[pin([2, 2, 2]), pin([3, 3, 3]), LINE],
+            &[needle, pin([3, 3, 3])],
+            vec![[1, 1], [2, 0]],
+        ),
+    ]
+}
+
+/// Row 13 in a listing, in the second triangle of a list; and which of two faults is named. A flat triangle is no fault.
 fn rows_of_bad_lists() -> Vec<Row> {
-    let line = [0, 0, 0, 1, 1, 1, 2, 2, 2];
     let high = |z: i32| [0, 0, 0, 4, 0, 0, 0, 4, z];
     let after_a = |other: [i32; 9]| [A, other].concat();
     let alone = || A.to_vec();
     let refused = |number, side, place| Answer::refused(number, side, place).into();
     let row = |name, first, second, outcome| list(name, JudgedLists::new(first, second), (8, 0), outcome);
     vec![
-        row("12", after_a(line), alone(), refused(2, 0, 1)),
-        row("12 with the lists traded", alone(), after_a(line), refused(2, 1, 1)),
         row("13", after_a(high(524_288)), alone(), listed(vec![[0, 0], [1, 0]])),
         row("13", after_a(high(524_289)), alone(), refused(1, 0, 17)),
         row("13", alone(), after_a(high(-524_288)), listed(vec![[0, 0], [0, 1]])),
         row("13", alone(), after_a(high(-524_289)), refused(1, 1, 17)),
         row(
-            "flat, then off the grid",
-            [line, high(524_289)].concat(),
+            "13 in both lists",
+            after_a(high(524_289)),
+            high(524_289).to_vec(),
+            refused(1, 0, 17),
+        ),
+        row(
+            "13 twice",
+            [high(524_289), pin([524_289; 3])].concat(),
             alone(),
-            refused(2, 0, 0),
+            refused(1, 0, 8),
+        ),
+        row(
+            "flat, then off the grid",
+            [LINE, high(524_289)].concat(),
+            alone(),
+            refused(1, 0, 17),
         ),
         row(
             "off the grid, then flat",
-            [high(524_289), line].concat(),
+            [high(524_289), LINE].concat(),
             alone(),
             refused(1, 0, 8),
         ),
         row(
             "flat, and a wrong length",
-            line.to_vec(),
+            LINE.to_vec(),
             A[..8].to_vec(),
             refused(3, 1, 8),
+        ),
+        row(
+            "flat first, off the grid second",
+            LINE.to_vec(),
+            high(524_289).to_vec(),
+            refused(1, 1, 8),
         ),
     ]
 }
@@ -205,7 +303,7 @@ fn rows_of_empty_lists() -> Vec<Row> {
     ]
 }
 
-/// As many triangles as a list can have, all meeting; one more than that; and a fault in the very last triangle.
+/// As many triangles as a list can have, all meeting; one more than that; the very last one flat; and a fault in it.
 fn rows_of_the_longest_lists() -> Vec<Row> {
     let lists = |first, second| JudgedLists::new(A.repeat(first), A.repeat(second));
     let most = MOST_TRIANGLES as u32;
@@ -213,6 +311,7 @@ fn rows_of_the_longest_lists() -> Vec<Row> {
     let longest = || lists(MOST_TRIANGLES, MOST_TRIANGLES);
     let ending = |last: [i32; 9]| [A.repeat(MOST_TRIANGLES - 1), last.to_vec()].concat();
     let flat_last = JudgedLists::new(ending([0; 9]), A.to_vec());
+    let first_alone = (0..most).map(|i| [i, 0]).collect();
     let off_grid_last = JudgedLists::new(A.to_vec(), ending([0, 0, 0, 4, 0, 0, 0, 4, 524_289]));
     let refused = |number, side, place| Answer::refused(number, side, place).into();
     vec![
@@ -235,7 +334,7 @@ fn rows_of_the_longest_lists() -> Vec<Row> {
             (4_096, 0),
             refused(3, 1, 9_225),
         ),
-        list("the last triangle flat", flat_last, (4_096, 0), refused(2, 0, 1_023)),
+        list("the last triangle flat", flat_last, (4_096, 0), listed(first_alone)),
         list(
             "the last number off the grid",
             off_grid_last,

@@ -8,6 +8,7 @@ pub mod axes;
 pub mod clipping;
 pub mod edges;
 pub mod signs;
+pub mod thin;
 
 /// A point, or the step from one point to another, in D coordinates.
 pub type Point<const D: usize> = [i128; D];
@@ -24,4 +25,18 @@ pub fn minus<const D: usize>(p: Point<D>, q: Point<D>) -> Point<D> {
 pub fn edges_of<const D: usize>(triangle: &[Point<D>; 3]) -> [[Point<D>; 2]; 3] {
     let [a, b, c] = *triangle;
     [[a, b], [b, c], [c, a]]
+}
+
+/// The steps around a shape; a segment's goes there and back.
+pub fn steps<const D: usize, const N: usize>(corners: &[Point<D>; N]) -> [Point<D>; N] {
+    std::array::from_fn(|i| minus(corners[(i + 1) % N], corners[i]))
+}
+
+/// Across both steps; zero where they are parallel.
+pub fn product(u: Space, v: Space) -> Space {
+    [
+        u[1] * v[2] - u[2] * v[1],
+        u[2] * v[0] - u[0] * v[2],
+        u[0] * v[1] - u[1] * v[0],
+    ]
 }

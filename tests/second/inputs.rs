@@ -1,5 +1,5 @@
 //! Random inputs of many kinds: tiny grids where special cases abound, the whole grid and its ends,
-//! shapes that touch or nearly do, every kind of bad list, and stories of plates.
+//! shapes that touch or nearly do, flat shapes of every kind, every kind of bad list, and stories of plates.
 
 mod faulty;
 mod listing;
@@ -9,6 +9,7 @@ mod scenes;
 mod space;
 mod stories;
 mod teller;
+mod thin;
 
 pub use faulty::LONGEST_BAD_LIST;
 pub use listing::{any_listing, tiny_listing};
@@ -57,6 +58,11 @@ fn any_half(random: &mut Random) -> i32 {
 fn nudge(random: &mut Random, list: &mut [i32]) {
     let position = random.index(list.len());
     list[position] = (list[position] + random.pick(&[-1, 1])).clamp(-GRID, GRID);
+}
+
+/// All points of a list moved by the same steps.
+fn moved(list: &[i32], by: &[i32]) -> Vec<i32> {
+    list.iter().zip(by.iter().cycle()).map(|(n, by)| n + by).collect()
 }
 
 /// The lists in either order, so that no kind of pair is tied to one.

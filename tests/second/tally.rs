@@ -3,8 +3,10 @@
 mod listings;
 mod meetings;
 pub mod plates;
+mod thin;
 
-use crate::answers::{ListFaults, Opinion, OFF_GRID, START_BEYOND_END, WRONG_LENGTH};
+use crate::answers::faults::ListFaults;
+use crate::answers::{Opinion, OFF_GRID, START_BEYOND_END, WRONG_LENGTH};
 use crate::answers::{FLAT_TRIANGLE_NUMBERS, SEGMENT_NUMBERS, SIDE_NUMBERS, TRIANGLE_NUMBERS, TURN_NUMBERS};
 use crate::inputs::LONGEST_BAD_LIST;
 use meetings::Meetings;
@@ -58,6 +60,7 @@ pub const SEGMENT: Cases = Cases {
     call: "segment",
     inputs: "segment pairs",
     list_numbers: &[SEGMENT_NUMBERS, TRIANGLE_NUMBERS],
+    refusals: &[1, 3],
     shapes: Shapes::SegmentAndTriangle,
     ..FLAT
 };
@@ -65,6 +68,7 @@ pub const PAIR: Cases = Cases {
     call: "pair",
     inputs: "space pairs",
     list_numbers: &[TRIANGLE_NUMBERS, TRIANGLE_NUMBERS],
+    refusals: &[1, 3],
     shapes: Shapes::Triangles,
     ..FLAT
 };
@@ -74,7 +78,7 @@ pub const LIST: Cases = Cases {
     inputs: "listings",
     list_numbers: &[TRIANGLE_NUMBERS, TRIANGLE_NUMBERS],
     values: &["no pair", "one pair", "more pairs"],
-    refusals: &[1, 2, 3, 4, 5],
+    refusals: &[1, 3, 4, 5],
     shapes: Shapes::Runs,
 };
 
@@ -104,7 +108,7 @@ pub struct Tally {
 struct FaultMixtures {
     /// By the fault of the first list alone and that of the second alone.
     pairs: [[u64; LIST_FAULTS]; LIST_FAULTS],
-    /// Refused for the grid, with a shape that is flat as well; by side.
+    /// Refused for the grid, with a shape that is flat as well, a fault or not; by side.
     off_grid_and_flat: [u64; 2],
 }
 
@@ -148,7 +152,7 @@ impl Tally {
         }
         if let [first, second] = &opinion.faults[..] {
             self.mixtures.note(first, second);
-            if answer.number == OFF_GRID && opinion.faults[answer.side as usize].has_twofold_shape() {
+            if answer.number == OFF_GRID && opinion.faults[answer.side as usize].first_is_flat() {
                 self.mixtures.off_grid_and_flat[answer.side as usize] += 1;
             }
         }
@@ -176,7 +180,7 @@ impl Tally {
             counts.extend(self.meetings.fine_counts());
         }
         if with_refusals && self.sides() == 2 {
-            counts.extend(self.mixtures.counts());
+            counts.extend(self.mixtures.counts(self.cases.refusals));
         }
         if with_refusals && with_finer {
             counts.extend(self.meetings.fine_mixtures());
@@ -236,20 +240,27 @@ impl Tally {
     }
 }
 
+/// What the first list and the second can be refused for, each alone, in a call that knows these refusals; 0 for nothing.
+fn fault_pairs(refusals: &[u64]) -> Vec<[usize; 2]> {
+    let known = |fault: &usize| *fault == 0 || refusals.contains(&(*fault as u64));
+    let faults = || (0..LIST_FAULTS).filter(known);
+    faults()
+        .flat_map(|first| faults().map(move |second| [first, second]))
+        .collect()
+}
+
 impl FaultMixtures {
     fn note(&mut self, first: &ListFaults, second: &ListFaults) {
         self.pairs[first.number_alone() as usize][second.number_alone() as usize] += 1;
     }
 
-    fn counts(&self) -> Vec<Count> {
+    fn counts(&self, refusals: &[u64]) -> Vec<Count> {
         let mut counts = Vec::new();
-        for (first, row) in self.pairs.iter().enumerate() {
-            for (second, count) in row.iter().enumerate() {
-                counts.push((
-                    format!("fault {first} in the first list with fault {second} in the second"),
-                    *count,
-                ));
-            }
+        for [first, second] in fault_pairs(refusals) {
+            counts.push((
+                format!("fault {first} in the first list with fault {second} in the second"),
+                self.pairs[first][second],
+            ));
         }
         for side in 0..2 {
             counts.push((

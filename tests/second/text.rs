@@ -2,7 +2,7 @@
 //! in many spellings, with blank lines and remarks between and now and then a byte-order mark before it all, and the own
 //! answers told as the example tells them, with the lines of both triangles.
 
-use crate::answers::{Answer, FLAT_SHAPE, GRID, OFF_GRID, TRIANGLE_NUMBERS, WRONG_LENGTH};
+use crate::answers::{Answer, GRID, OFF_GRID, TRIANGLE_NUMBERS, WRONG_LENGTH};
 use crate::call::Call;
 use crate::random::Random;
 use std::fs::File;
@@ -103,7 +103,6 @@ fn told(answer: &Answer, lists: [&[i32]; 2]) -> String {
             let number = lists[answer.side as usize][place];
             format!("refused (1): {triangle}'s corner {corner} has {coordinate} = {number}, off the grid (-{GRID} to {GRID})")
         }
-        (FLAT_SHAPE, _) => format!("refused (2): {triangle} is flat: its corners lie on one line"),
         (WRONG_LENGTH, _) => {
             let plural = if place == 1 { "" } else { "s" };
             format!("refused (3): {triangle} has {place} number{plural}, not {TRIANGLE_NUMBERS}")

@@ -1,7 +1,8 @@
 //! The own answer to a listing: its pairs by two methods, its refusals, and what it had to deal with.
 
-use super::{axes, first_refusal, list_faults, points_of, reaches, signs};
-use super::{Answer, Findings, ListFaults, Opinion, Outcome, Overlap, Reach, Triangle};
+use super::faults::{first_refusal, list_faults, FlatShapes, ListFaults};
+use super::{axes, points_of, reaches, thin};
+use super::{Answer, Findings, Opinion, Outcome, Overlap, Reach, Triangle};
 use super::{START_BEYOND_END, TOO_LITTLE_ROOM, TRIANGLE_NUMBERS};
 use std::collections::HashMap;
 
@@ -18,6 +19,7 @@ pub struct JudgedLists {
     /// By edges that reach the other triangle, and by separating axes; none where a list is bad.
     pairs: Pairs,
     second_pairs: Pairs,
+    flat_pairs: [u64; 2],
 }
 
 pub struct Listing {
@@ -31,6 +33,8 @@ pub struct ListingFindings {
     pub triangles: [usize; 2],
     /// None where a list is bad.
     pub pairs: usize,
+    /// Pairs of triangles of which one is flat, apart and meeting; none where a list is bad.
+    pub flat_pairs: [u64; 2],
     pub start: u64,
     /// How many numbers the buffer has from the start on; nothing where the start is beyond its end.
     pub room: Option<u64>,
@@ -40,17 +44,19 @@ impl JudgedLists {
     pub fn new(first: Vec<i32>, second: Vec<i32>) -> JudgedLists {
         let faults = [triangles_faults(&first), triangles_faults(&second)];
         let are_good = faults.iter().all(|list| list.number_alone() == 0);
-        let (pairs, second_pairs) = if are_good {
-            pairs_by_both(&Distinct::of(&first), &Distinct::of(&second))
-        } else {
-            Default::default()
-        };
+        let (mut pairs, mut second_pairs, mut flat_pairs) = Default::default();
+        if are_good {
+            (pairs, second_pairs) = pairs_by_both(&Distinct::of(&first), &Distinct::of(&second));
+            let triangles = [&first, &second].map(|list| list.len() / TRIANGLE_NUMBERS);
+            flat_pairs = pairs_with_a_flat_one(triangles, &faults, &pairs);
+        }
         JudgedLists {
             first,
             second,
             faults,
             pairs,
             second_pairs,
+            flat_pairs,
         }
     }
 
@@ -61,9 +67,8 @@ impl JudgedLists {
 
 fn triangles_faults(list: &[i32]) -> ListFaults {
     let right_length = list.len() % TRIANGLE_NUMBERS == 0 && list.len() <= TRIANGLE_NUMBERS * MOST_TRIANGLES;
-    list_faults(list, TRIANGLE_NUMBERS, right_length, |numbers| {
-        signs::is_on_one_line(&points_of(numbers))
-    })
+    let is_flat = |numbers: &[i32]| thin::is_flat::<3>(&points_of(numbers));
+    list_faults(list, TRIANGLE_NUMBERS, right_length, is_flat, FlatShapes::Served)
 }
 
 impl Listing {
@@ -72,6 +77,7 @@ impl Listing {
         let findings = ListingFindings {
             triangles: [first, second].map(|list| list.len() / TRIANGLE_NUMBERS),
             pairs: self.lists.pair_count(),
+            flat_pairs: self.lists.flat_pairs,
             start: self.start,
             room: self.room(),
         };
@@ -147,6 +153,18 @@ fn pairs_by_both(first: &Distinct, second: &Distinct) -> (Pairs, Pairs) {
         }
     }
     (pairs, second_pairs)
+}
+
+/// How many pairs have at least one flat triangle: those apart, and those meeting.
+fn pairs_with_a_flat_one([first, second]: [usize; 2], faults: &[ListFaults; 2], meeting: &Pairs) -> [u64; 2] {
+    let [first_flat, second_flat] = faults.each_ref().map(|list| &list.flat_shapes);
+    let all = first * second - (first - first_flat.len()) * (second - second_flat.len());
+    // The indices of flat triangles rise.
+    let has_flat = |[i, j]: &&[u32; 2]| {
+        first_flat.binary_search(&(*i as usize)).is_ok() || second_flat.binary_search(&(*j as usize)).is_ok()
+    };
+    let meeting = meeting.iter().filter(has_flat).count();
+    [all - meeting, meeting].map(|pairs| pairs as u64)
 }
 
 pub fn meet(one: &Triangle, other: &Triangle) -> [bool; 2] {

@@ -2,7 +2,8 @@
 //! every call the changes are played again on an empty plate, and an undone one is as if it had never been.
 
 use super::clashes::Clashes;
-use super::{triangle_faults, Answer, GRID, TRIANGLE_NUMBERS};
+use super::faults::placed_triangle_faults;
+use super::{Answer, GRID, TRIANGLE_NUMBERS};
 
 pub const SLOTS: usize = 64;
 pub const PARTS: u32 = 16;
@@ -178,7 +179,7 @@ impl Plate {
 
     fn place_faults(&self, slot: u32, part: u32, corners: &Corners) -> Vec<Answer> {
         let bad = slot_fault(slot).into_iter().chain(part_fault(part, 0));
-        let triangle = triangle_faults(corners).shapes.into_iter();
+        let triangle = placed_triangle_faults(corners).shapes.into_iter();
         let triangle = triangle.map(|fault| Answer::refused(fault.number, 0, fault.place));
         let filled = slot < SLOTS as u32 && self.slots[slot as usize].is_some();
         let filled = filled.then(|| Answer::refused(SLOT_IS_FILLED, 0, u64::from(slot)));

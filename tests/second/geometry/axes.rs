@@ -6,12 +6,14 @@
 //! lies in a plane that 0 isn't in. The axes named below include one across each facet, and one across that plane.
 //! Shapes that touch, at a corner or along an edge, have no axis on which the shadows are apart: no case of its own.
 
-use super::{minus, Flat, FlatTriangle, Point, Space, Triangle};
+use super::thin::{is_flat, kind_of, longest_edge, Kind};
+use super::{minus, product, steps, Flat, FlatTriangle, Point, Space, Triangle};
 
-#[derive(Clone, Copy, PartialEq, Eq, Debug)]
+#[derive(Clone, Copy, PartialEq, Eq, PartialOrd, Ord, Debug)]
 pub enum Overlap {
     Apart,
-    /// A common point, but none that is inner to both shapes (not on the border of either, nor at a segment's end).
+    /// A common point, but none that is inner to both shapes (not on the border of either, nor at a segment's end). A
+    /// single point is inner to itself.
     BorderOnly,
     InnerPoints,
 }
@@ -25,6 +27,15 @@ pub fn flat_overlap(first: &FlatTriangle, second: &FlatTriangle) -> Overlap {
 }
 
 /// The same for a segment (N = 2) or a triangle (N = 3) and a triangle of space.
+pub fn overlap<const N: usize>(first: &[Space; N], second: &Triangle) -> Overlap {
+    if is_flat(first) || is_flat(second) {
+        overlap_of_thin(first, second)
+    } else {
+        overlap_of_sound(first, second)
+    }
+}
+
+/// Of shapes that aren't flat.
 ///
 /// Where the differences fill space, each facet is parallel to one of the triangles, whose normal is across it; or it
 /// is spanned by an edge of each shape, and the product of both steps is across it. Where the differences lie in one
@@ -34,7 +45,7 @@ pub fn flat_overlap(first: &FlatTriangle, second: &FlatTriangle) -> Overlap {
 /// normal of a segment is, tells nothing: all shadows on it are 0.
 ///
 /// Steps are at most 2^20 in size, their products 2^41 and a normal's with a step 2^62, so a shadow is below 2^83.
-pub fn overlap<const N: usize>(first: &[Space; N], second: &Triangle) -> Overlap {
+fn overlap_of_sound<const N: usize>(first: &[Space; N], second: &Triangle) -> Overlap {
     let (first_steps, second_steps) = (steps(first), steps(second));
     let (first_normal, second_normal) = (normal(&first_steps), normal(&second_steps));
     let products = first_steps
@@ -49,6 +60,40 @@ pub fn overlap<const N: usize>(first: &[Space; N], second: &Triangle) -> Overlap
         .chain(products)
         .chain(in_plane);
     overlap_on(axes, first, second)
+}
+
+/// Of any shapes, with axes for differences of whatever dimensions.
+///
+/// Each edge of the differences goes along a step of one of the shapes, of which a flat one has a single step. Where the
+/// differences fill space, each facet is spanned by two steps, whose product is across it. Where they lie in one plane,
+/// the product of two steps is across that plane; and within it each facet goes along a step, and the product of that
+/// product and the step is across it. Where they lie on one line, along a step, the step is an axis, and the products of
+/// the step with the axes of space tell each point off the line from those on it. Where they are one point, the axes of
+/// space tell it from 0. All these axes are tried in any case.
+///
+/// The numbers are bounded as above.
+fn overlap_of_thin<const N: usize>(first: &[Space; N], second: &Triangle) -> Overlap {
+    let all_steps = [spanning_steps(first), spanning_steps(second)].concat();
+    let products_with = |axes: &[Space]| -> Vec<Space> {
+        axes.iter()
+            .flat_map(|axis| all_steps.iter().map(|step| product(*axis, *step)))
+            .collect()
+    };
+    let products = products_with(&all_steps);
+    let (in_plane, across_line) = (products_with(&products), products_with(&AXES_OF_SPACE));
+    let axes = [products, in_plane, across_line, all_steps, AXES_OF_SPACE.to_vec()].concat();
+    overlap_on(axes.into_iter(), first, second)
+}
+
+const AXES_OF_SPACE: [Space; 3] = [[1, 0, 0], [0, 1, 0], [0, 0, 1]];
+
+/// The steps around a shape; of one that is flat only that along all of it.
+fn spanning_steps<const N: usize>(corners: &[Space; N]) -> Vec<Space> {
+    if kind_of(corners) == Kind::Area {
+        return steps(corners).to_vec();
+    }
+    let [from, to] = longest_edge(corners);
+    vec![minus(to, from)]
 }
 
 /// What the shadows on these axes say: one axis where they are apart is enough. Shadows that only touch, and aren't one
@@ -80,20 +125,7 @@ fn shadow<const D: usize>(corners: &[Point<D>], axis: Point<D>) -> (i128, i128) 
     })
 }
 
-/// The steps around a shape; a segment's goes there and back.
-fn steps<const D: usize, const N: usize>(corners: &[Point<D>; N]) -> [Point<D>; N] {
-    std::array::from_fn(|i| minus(corners[(i + 1) % N], corners[i]))
-}
-
 /// Across a triangle; zero for a segment.
 fn normal(steps: &[Space]) -> Space {
     product(steps[0], steps[1])
-}
-
-fn product(u: Space, v: Space) -> Space {
-    [
-        u[1] * v[2] - u[2] * v[1],
-        u[2] * v[0] - u[0] * v[2],
-        u[0] * v[1] - u[1] * v[0],
-    ]
 }

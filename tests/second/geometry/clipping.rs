@@ -1,8 +1,10 @@
 //! A segment and a triangle of space, and two triangles of space, by clipping: what is left of a segment when all of it
-//! outside the triangle is cut off. This looks for a common point.
+//! outside the triangle is cut off. This looks for a common point. Segments with equal ends, and triangles with their
+//! corners on one line, are clipped, and clip, as what they are.
 
 use super::signs::{shadow_turn, side_by_formula, turn_by_formula, without};
-use super::{edges_of, Segment, Space, Triangle};
+use super::thin::{is_flat, longest_edge};
+use super::{edges_of, minus, Segment, Space, Triangle};
 use std::cmp::Ordering;
 
 /// How much of a segment lies in a triangle.
@@ -13,11 +15,17 @@ pub enum Reach {
     Stretch,
 }
 
-/// How much of a segment that isn't flat lies in a triangle that isn't flat.
+/// How much of a segment lies in a triangle.
 pub fn reach(segment: &Segment, triangle: &Triangle) -> Reach {
-    match part_inside(segment, triangle) {
+    let part = if is_flat(triangle) {
+        part_on(segment, &longest_edge(triangle))
+    } else {
+        part_inside(segment, triangle)
+    };
+    let [p, q] = segment;
+    match part {
         None => Reach::Nothing,
-        Some(part) if part.from.is_below(part.to) => Reach::Stretch,
+        Some(part) if p != q && part.from.is_below(part.to) => Reach::Stretch,
         Some(_) => Reach::Point,
     }
 }
@@ -28,15 +36,18 @@ pub fn reach(segment: &Segment, triangle: &Triangle) -> Reach {
 /// closed convex set, so they have an extreme point. Where that is on no edge it is inner to both triangles, which
 /// then share either a piece of the line where their planes cross, on both sides of the point, or a piece of their
 /// one plane all around it; and an extreme point is not between two others. So nothing is special about triangles of
-/// one plane.
+/// one plane. A triangle with its corners on one line is its longest edge.
 pub fn edge_reach(first: &Triangle, second: &Triangle) -> Reach {
+    if is_flat(first) {
+        return reach(&longest_edge(first), second);
+    }
     edges_of(first)
         .map(|edge| reach(&edge, second))
         .into_iter()
         .fold(Reach::Nothing, Reach::max)
 }
 
-/// A triangle is the common part of five half-spaces: the two sides of its plane, and the inner sides of three walls.
+/// A triangle that isn't flat is the common part of five half-spaces: the two sides of its plane, and the inner sides of three walls.
 /// A wall stands over an edge, along an axis that the plane doesn't contain. Along that axis no two points of the
 /// plane cover each other, so a point of the plane lies in the triangle exactly when it is in the triangle's shadow.
 /// No case is special: a segment within the plane keeps all of itself between the plane's sides, one within a wall, on
@@ -56,6 +67,27 @@ fn part_inside(segment: &Segment, triangle: &Triangle) -> Option<Part> {
         part = part.kept(segment.map(place))?;
     }
     Some(part)
+}
+
+/// The other segment is the points r + u (s - r) with u from 0 to 1. At the coordinate in which it is longest, a point x
+/// of the segment tells what u must be, (x - r) / (s - r) there. So x is on the other segment where this u is from 0 to 1
+/// and the other two coordinates agree with it, all of which is linear in x. Where r is s, x must be r in each
+/// coordinate. No number here is above 2^41 in size.
+fn part_on(segment: &Segment, [r, s]: &Segment) -> Option<Part> {
+    let step = minus(*s, *r);
+    let longest = (0..3).max_by_key(|k| step[*k].abs())?;
+    let whole = step[longest];
+    let mut part = Part::WHOLE;
+    for k in 0..3 {
+        let off = |x: Space| match whole {
+            0 => x[k] - r[k],
+            _ => (x[k] - r[k]) * whole - (x[longest] - r[longest]) * step[k],
+        };
+        let offs = segment.map(off);
+        part = part.kept(offs)?.kept(offs.map(|off| -off))?;
+    }
+    let along = segment.map(|x| (x[longest] - r[longest]) * whole.signum());
+    part.kept(along)?.kept(along.map(|n| whole.abs() - n))
 }
 
 /// The points p + t (q - p) of a segment with t from `from` to `to`, which is not below `from`.

@@ -1,4 +1,4 @@
-//! The signs of document 01, and when the corners of a triangle lie on one line.
+//! The signs of document 01, and the shadows of triangles along the axes.
 //!
 //! With coordinates of at most 2^31 a turn is at most 2^65 and a side at most 2^99 in size, by either way.
 
@@ -23,11 +23,6 @@ pub fn side_by_cofactors(a: Space, b: Space, c: Space, d: Space) -> i128 {
 /// The 3 by 3 determinant of the rows a-d, b-d, c-d, as document 01 writes it.
 pub fn side_by_formula(a: Space, b: Space, c: Space, d: Space) -> i128 {
     three_rows(minus(a, d), minus(b, d), minus(c, d))
-}
-
-/// Corners lie on one line of space exactly when their shadows along each axis lie on one line of the plane.
-pub fn is_on_one_line(triangle: &Triangle) -> bool {
-    (0..3).all(|axis| shadow_turn(triangle, axis) == 0)
 }
 
 /// The turn of the triangle's shadow along one axis: of its corners with that coordinate left out.

@@ -1,8 +1,9 @@
-//! Listings: runs of triangles with every mixture of faults or none, and buffers with just enough room, just too
-//! little, and a start at the end or beyond.
+//! Listings: runs of triangles, some with many flat ones, with every mixture of faults or none; and buffers with just
+//! enough room, just too little, and a start at the end or beyond.
 
 use super::faulty::{flat_off_grid_shape, flat_shape, off_grid_number};
 use super::scenes::{any_runs, tiny_runs};
+use super::thin::thin_some;
 use super::{box_list, Lists};
 use crate::answers::listing::{JudgedLists, Listing, MOST_TRIANGLES};
 use crate::answers::{GRID, TRIANGLE_NUMBERS};
@@ -14,8 +15,9 @@ const MOST_NUMBERS: usize = TRIANGLE_NUMBERS * MOST_TRIANGLES;
 const FAULTY: u64 = 33;
 
 pub fn any_listing(random: &mut Random) -> Call {
-    let most = any_sizes(random);
-    let mut lists = any_runs(random, most);
+    let sizes = any_sizes(random);
+    let mut lists = any_runs(random, sizes);
+    thin_now_and_then(random, &mut lists);
     make_some_long(random, &mut lists);
     if random.below(100) < FAULTY {
         // A fault of the first list hides those of the second, so it is spared now and then.
@@ -28,10 +30,21 @@ pub fn any_listing(random: &mut Random) -> Call {
 }
 
 pub fn tiny_listing(random: &mut Random) -> Call {
-    let most = any_sizes(random);
-    let mut lists = tiny_runs(random, most);
+    let sizes = any_sizes(random);
+    let mut lists = tiny_runs(random, sizes);
+    thin_now_and_then(random, &mut lists);
     make_some_long(random, &mut lists);
     with_any_room(random, lists)
+}
+
+/// In one listing of three flat triangles are common, in each list as often as it comes.
+fn thin_now_and_then(random: &mut Random, lists: &mut Lists) {
+    if random.once_in(3) {
+        for list in [&mut lists.0, &mut lists.1] {
+            let one_in = random.pick(&[1, 2, 4, 10]);
+            thin_some(random, list, one_in);
+        }
+    }
 }
 
 // ---- Sizes ----
@@ -80,7 +93,8 @@ fn repeat_to(list: &mut Vec<i32>, numbers: usize) {
 
 // ---- Faults ----
 
-/// Each kind of fault or none, so that two lists have every mixture of them.
+/// Each kind of fault or none, so that two lists have every mixture of them; and flat triangles beside them, which must
+/// neither be refused nor hide a fault.
 fn spoil(random: &mut Random, list: &mut Vec<i32>) {
     if !list.is_empty() {
         if random.once_in(2) {

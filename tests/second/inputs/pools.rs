@@ -4,8 +4,9 @@
 use super::faulty::{flat_off_grid_shape, flat_shape, off_grid_number};
 use super::scenes::{any_runs, tiny_runs};
 use super::{box_list, extreme_list};
+use crate::answers::faults::placed_triangle_faults;
 use crate::answers::plate::Corners;
-use crate::answers::{triangle_faults, GRID, TRIANGLE_NUMBERS};
+use crate::answers::{GRID, TRIANGLE_NUMBERS};
 use crate::random::Random;
 
 const MOST_IN_A_POOL: usize = 80;
@@ -67,7 +68,7 @@ fn few_of(random: &mut Random) -> Vec<Corners> {
 fn good_triangles(list: &[i32]) -> Vec<Corners> {
     let triangles = list.chunks_exact(TRIANGLE_NUMBERS).map(corners_of);
     let mut good: Vec<Corners> = triangles
-        .filter(|corners| triangle_faults(corners).number_alone() == 0)
+        .filter(|corners| placed_triangle_faults(corners).number_alone() == 0)
         .collect();
     if good.is_empty() {
         good.push([0, 0, 0, 4, 0, 0, 0, 4, 0]);

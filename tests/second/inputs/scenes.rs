@@ -1,10 +1,10 @@
-//! Runs of triangles of space for listings: scenes in which many pairs meet, or few, and special cases abound. No
-//! triangle here is flat, and every number is on the grid.
+//! Runs of triangles of space for listings: scenes in which many pairs meet, or few, and special cases abound. Every
+//! number is on the grid, and a triangle is flat by chance only.
 
 use super::plane::small_picture;
 use super::space::{any_lists, magnified, sheared, tiny_lists, Layout, HINGED_STEPS, TINY};
-use super::{box_list, box_lists, box_point, extreme_lists, nudge, shuffled, Lists};
-use crate::answers::{triangle_faults, GRID, TRIANGLE_NUMBERS};
+use super::{box_list, box_lists, box_point, extreme_lists, moved, nudge, shuffled, Lists};
+use crate::answers::{GRID, TRIANGLE_NUMBERS};
 use crate::random::Random;
 
 type Vector = [i32; 3];
@@ -12,20 +12,20 @@ type Vector = [i32; 3];
 /// Gives a triangle for each list, time and again: those of one scene are made to have to do with each other.
 type Scene = Box<dyn Fn(&mut Random) -> Lists>;
 
-/// At most so many triangles in each list; fewer where some came out flat.
-pub fn any_runs(random: &mut Random, most: [usize; 2]) -> Lists {
+/// So many triangles in each list.
+pub fn any_runs(random: &mut Random, sizes: [usize; 2]) -> Lists {
     if random.once_in(3) {
-        return tiny_runs(random, most);
+        return tiny_runs(random, sizes);
     }
     let scene = any_scene(random);
-    let lists = gathered(random, &scene, most);
+    let lists = gathered(random, &scene, sizes);
     mixed_lists(random, lists)
 }
 
 /// The same with coordinates from -4 to 4, or these made large.
-pub fn tiny_runs(random: &mut Random, most: [usize; 2]) -> Lists {
+pub fn tiny_runs(random: &mut Random, sizes: [usize; 2]) -> Lists {
     let scene = tiny_scene(random);
-    let mut lists = gathered(random, &scene, most);
+    let mut lists = gathered(random, &scene, sizes);
     match random.below(6) {
         0 => lists = magnified(lists),
         1 => lists = sheared(random, lists),
@@ -68,7 +68,7 @@ fn clusters(random: &mut Random) -> Scene {
     let half = random.pick(&[1, 2, 5, 1_000, GRID / 2]);
     let triangle = move |random: &mut Random| {
         let (centre, steps) = (random.pick(&centres), box_list(random, TRIANGLE_NUMBERS, half));
-        steps.iter().zip(centre.iter().cycle()).map(|(n, by)| n + by).collect()
+        moved(&steps, &centre)
     };
     Box::new(move |random| (triangle(random), triangle(random)))
 }
@@ -86,21 +86,21 @@ fn cells(random: &mut Random) -> Scene {
     Box::new(move |random| (triangle(random), triangle(random)))
 }
 
-fn gathered(random: &mut Random, scene: &Scene, most: [usize; 2]) -> Lists {
+fn gathered(random: &mut Random, scene: &Scene, sizes: [usize; 2]) -> Lists {
     let [mut first, mut second] = [Vec::new(), Vec::new()];
-    for k in 0..most[0].max(most[1]) {
+    for k in 0..sizes[0].max(sizes[1]) {
         let (one, other) = scene(random);
-        if k < most[0] {
+        if k < sizes[0] {
             first.extend(one);
         }
-        if k < most[1] {
+        if k < sizes[1] {
             second.extend(other);
         }
     }
     // A few triangles stand in both lists, or several times in one.
     if random.once_in(8) {
         repeat_some(random, &mut first);
-        let shared = first.len().min(TRIANGLE_NUMBERS * (most[1] / 2));
+        let shared = first.len().min(TRIANGLE_NUMBERS * (sizes[1] / 2));
         second[..shared].copy_from_slice(&first[..shared]);
     }
     (first, second)
@@ -119,14 +119,13 @@ fn mixed_lists(random: &mut Random, (first, second): Lists) -> Lists {
     (mixed(random, first), mixed(random, second))
 }
 
-/// The triangles in any order, their corners too, and the flat ones left out. Now and then a number is moved by one.
+/// The triangles in any order, their corners too. Now and then a number is moved by one.
 fn mixed(random: &mut Random, mut list: Vec<i32>) -> Vec<i32> {
     if !list.is_empty() && random.once_in(4) {
         nudge(random, &mut list);
     }
     let triangles = list.chunks(TRIANGLE_NUMBERS);
-    let good = triangles.filter(|triangle| triangle_faults(triangle).number_alone() == 0);
-    let turned = good.flat_map(|triangle| shuffled::<3>(random, triangle.to_vec(), TRIANGLE_NUMBERS));
+    let turned = triangles.flat_map(|triangle| shuffled::<3>(random, triangle.to_vec(), TRIANGLE_NUMBERS));
     let list: Vec<i32> = turned.collect();
     let numbers = list.len();
     shuffled::<TRIANGLE_NUMBERS>(random, list, numbers)

@@ -3,7 +3,8 @@
 
 use super::faulty::{any_fault_shape, bad_list};
 use super::plane::{small_picture, SMALL};
-use super::{any_half, box_list, box_lists, box_point, extreme_list, extreme_lists, nested_lists, nudge};
+use super::thin::{any_thin_lists, thinned_lists};
+use super::{any_half, box_list, box_lists, box_point, extreme_list, extreme_lists, moved, nested_lists, nudge};
 use super::{sharing_lists, shuffled, traded, Lists};
 use crate::answers::{FLAT_TRIANGLE_NUMBERS, GRID, SEGMENT_NUMBERS, SIDE_NUMBERS, TRIANGLE_NUMBERS};
 use crate::call::Call;
@@ -15,6 +16,9 @@ type Vector = [i32; 3];
 pub const TINY: i32 = 4;
 /// Of a hundred pairs, so many are made to have faults.
 const FAULTY: u64 = 18;
+/// So many are made to have a flat shape; and of those on a tiny grid, one in so many.
+const THIN: u64 = 22;
+const TINY_THIN_ONCE_IN: u64 = 3;
 
 pub fn any_side(random: &mut Random) -> Call {
     Call::Side(match random.below(100) {
@@ -33,7 +37,7 @@ pub fn any_segment(random: &mut Random) -> Call {
         let lists = (any_fault_shape::<3>(random, 2), any_fault_shape::<3>(random, 3));
         return segment_call(random, lists);
     }
-    let lists = any_lists(random);
+    let lists = thin_or_any_lists(random);
     edge_call(random, lists)
 }
 
@@ -41,19 +45,36 @@ pub fn any_pair(random: &mut Random) -> Call {
     let lists = if random.below(100) < FAULTY {
         (any_fault_shape::<3>(random, 3), any_fault_shape::<3>(random, 3))
     } else {
-        any_lists(random)
+        thin_or_any_lists(random)
     };
     pair_call(random, lists)
 }
 
 pub fn tiny_segment(random: &mut Random) -> Call {
-    let lists = tiny_lists(random);
+    let lists = thin_or_tiny_lists(random);
     edge_call(random, lists)
 }
 
 pub fn tiny_pair(random: &mut Random) -> Call {
-    let lists = tiny_lists(random);
+    let lists = thin_or_tiny_lists(random);
     pair_call(random, lists)
+}
+
+fn thin_or_any_lists(random: &mut Random) -> Lists {
+    if random.below(100 - FAULTY) < THIN {
+        any_thin_lists(random)
+    } else {
+        any_lists(random)
+    }
+}
+
+fn thin_or_tiny_lists(random: &mut Random) -> Lists {
+    let lists = tiny_lists(random);
+    if random.once_in(TINY_THIN_ONCE_IN) {
+        thinned_lists(random, lists, TINY)
+    } else {
+        lists
+    }
 }
 
 /// An edge of one triangle for a segment, and the other triangle.
@@ -263,8 +284,7 @@ fn sheared_points(random: &mut Random) -> Vec<i32> {
 /// Tiny lists slanted far.
 pub fn sheared(random: &mut Random, (first, second): Lists) -> Lists {
     let (slant, origin): (_, Vector) = (Slant::any(random, 180), box_point(random, GRID / 2));
-    let moved = |list: Vec<i32>| list.iter().zip(origin.iter().cycle()).map(|(n, by)| n + by).collect();
-    (moved(slant.list(first)), moved(slant.list(second)))
+    (moved(&slant.list(first), &origin), moved(&slant.list(second), &origin))
 }
 
 /// Four points of one plane, or with one number off by one.

@@ -2,13 +2,16 @@
 //! mixtures of faults.
 
 use super::meetings::named;
-use super::{Count, Refusal, LIST_FAULTS};
+use super::{fault_pairs, Count, Refusal, LIST, LIST_FAULTS};
+use crate::answers::faults::ListFaults;
 use crate::answers::listing::{ListingFindings, MOST_TRIANGLES};
-use crate::answers::{ListFaults, Opinion, FLAT_SHAPE, OFF_GRID, TRIANGLE_NUMBERS, WRONG_LENGTH};
+use crate::answers::{Opinion, OFF_GRID, TRIANGLE_NUMBERS, WRONG_LENGTH};
 
 #[derive(Default)]
 pub struct Listings {
     pairs: u64,
+    /// Pairs of triangles of which one is flat, apart and meeting, in listings that were served.
+    flat_pairs: [u64; 2],
     rooms: Rooms,
     lengths: Lengths,
     mixtures: Mixtures,
@@ -40,14 +43,16 @@ struct Mixtures {
     several_faults: u64,
     /// By the room, the fault of the first list alone and that of the second alone.
     with_room: [[[u64; LIST_FAULTS]; LIST_FAULTS]; ROOMS.len()],
-    /// Two faults in a list, as `TWO_FAULTS` has them; by side.
-    in_one_list: [[u64; 2]; TWO_FAULTS.len()],
+    /// As `IN_ONE_LIST` has them; by side.
+    in_one_list: [[u64; 2]; IN_ONE_LIST.len()],
     /// Both lists empty; by the room.
     empty_lists: [u64; ROOMS.len()],
 }
 
 const ROOMS: [&str; 3] = ["the start beyond the end", "room for no pair", "room"];
-const TWO_FAULTS: [&str; 4] = [
+/// Two faults in one list, or a fault and a flat triangle, which is none.
+const IN_ONE_LIST: [&str; 5] = [
+    "a triangle off the grid before another",
     "a triangle off the grid before a flat one",
     "a flat triangle before one off the grid",
     "a wrong length with a triangle off the grid",
@@ -59,6 +64,7 @@ impl Listings {
         let served = opinion.outcome.answer.number == 0;
         if served {
             self.pairs += opinion.outcome.answer.value;
+            (0..2).for_each(|verdict| self.flat_pairs[verdict] += findings.flat_pairs[verdict]);
             self.lengths.note(findings);
         }
         if let [first, second] = &opinion.faults[..] {
@@ -69,7 +75,12 @@ impl Listings {
     }
 
     pub fn counts(&self) -> Vec<Count> {
-        let mut counts = vec![("pairs found".to_string(), self.pairs)];
+        let [flat_apart, flat_meeting] = self.flat_pairs;
+        let mut counts = named([
+            ("pairs found", self.pairs),
+            ("pairs with a flat triangle and apart", flat_apart),
+            ("pairs with a flat triangle and meeting", flat_meeting),
+        ]);
         counts.extend(self.rooms.counts());
         counts.extend(named([
             ("both lists empty", self.lengths.both_empty),
@@ -167,7 +178,7 @@ impl Mixtures {
         let mut faults = usize::from(findings.room.is_none()) + usize::from(is_cramped);
         for (side, list) in lists.into_iter().enumerate() {
             faults += usize::from(list.length.is_some()) + list.shapes.len();
-            for (kind, met) in two_faults(list).into_iter().enumerate() {
+            for (kind, met) in in_one_list(list).into_iter().enumerate() {
                 self.in_one_list[kind][side] += u64::from(met);
             }
         }
@@ -178,14 +189,12 @@ impl Mixtures {
         let mut counts = Vec::new();
         for (room, room_name) in ROOMS.iter().enumerate() {
             counts.push((format!("empty lists with {room_name}"), self.empty_lists[room]));
-            for (first, row) in self.with_room[room].iter().enumerate() {
-                for (second, count) in row.iter().enumerate() {
-                    let name = format!("faults {first} and {second} of the lists with {room_name}");
-                    counts.push((name, *count));
-                }
+            for [first, second] in fault_pairs(LIST.refusals) {
+                let name = format!("faults {first} and {second} of the lists with {room_name}");
+                counts.push((name, self.with_room[room][first][second]));
             }
         }
-        for (kind, name) in TWO_FAULTS.iter().enumerate() {
+        for (kind, name) in IN_ONE_LIST.iter().enumerate() {
             for side in 0..2 {
                 counts.push((format!("{name}, in list {side}"), self.in_one_list[kind][side]));
             }
@@ -194,17 +203,17 @@ impl Mixtures {
     }
 }
 
-/// Which of `TWO_FAULTS` a list has.
-fn two_faults(list: &ListFaults) -> [bool; TWO_FAULTS.len()] {
-    let first_of = |number| list.shapes.iter().find(|fault| fault.number == number);
-    let (off_grid, flat) = (first_of(OFF_GRID), first_of(FLAT_SHAPE));
+/// Which of `IN_ONE_LIST` a list has.
+fn in_one_list(list: &ListFaults) -> [bool; IN_ONE_LIST.len()] {
+    let (off_grid, flat) = (list.shapes.first(), list.flat_shapes.first());
     let (mut off_grid_first, mut flat_first) = (false, false);
     if let (None, Some(off_grid), Some(flat)) = (list.length, off_grid, flat) {
-        off_grid_first = off_grid.shape < flat.shape;
-        flat_first = flat.shape < off_grid.shape;
+        off_grid_first = off_grid.shape < *flat;
+        flat_first = *flat < off_grid.shape;
     }
     let wrong_length = list.length.is_some();
     [
+        !wrong_length && list.shapes.len() > 1,
         off_grid_first,
         flat_first,
         wrong_length && off_grid.is_some(),
@@ -212,15 +221,14 @@ fn two_faults(list: &ListFaults) -> [bool; TWO_FAULTS.len()] {
     ]
 }
 
-/// Each position in the first two triangles must have been the lowest bad one, each of the first four triangles the
-/// flat one, and each length next to that of few and of most triangles given.
+/// Each position in the first two triangles must have been the lowest bad one, and each length next to that of few and of
+/// most triangles given.
 pub fn wanted_refusals(side: u64) -> Vec<Refusal> {
     let most_numbers = TRIANGLE_NUMBERS * MOST_TRIANGLES;
     let positions = (0..2 * TRIANGLE_NUMBERS).map(|place| (OFF_GRID, place));
-    let triangles = (0..4).map(|place| (FLAT_SHAPE, place));
     let short = (1..2 * TRIANGLE_NUMBERS).filter(|length| length % TRIANGLE_NUMBERS != 0);
     let long = [most_numbers + 1, most_numbers + TRIANGLE_NUMBERS];
     let lengths = short.chain(long).map(|length| (WRONG_LENGTH, length));
-    let places = positions.chain(triangles).chain(lengths);
+    let places = positions.chain(lengths);
     places.map(|(number, place)| (number, side, place as u64)).collect()
 }

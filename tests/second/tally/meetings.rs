@@ -1,11 +1,13 @@
 //! Counts of how the shapes of the served pairs lay: what they shared, and what made it hard to see.
 
 use super::listings::Listings;
+use super::thin::ThinMeetings;
 use super::{Count, Shapes};
 use crate::answers::{Findings, Opinion, PlaneFindings, SpaceFindings};
 use crate::geometry::axes::Overlap;
 use crate::geometry::clipping::Reach;
 use crate::geometry::edges::Contact;
+use crate::geometry::thin::Kind;
 
 pub enum Meetings {
     None,
@@ -126,9 +128,11 @@ pub struct SpaceMeetings {
     reaches: [[u64; 2]; 2],
     along_a_stretch: u64,
     overlaps: Overlaps,
+    /// All that has a flat shape is counted here only.
+    thin: ThinMeetings,
 }
 
-const VERDICTS: [&str; 2] = ["apart", "meeting"];
+pub const VERDICTS: [&str; 2] = ["apart", "meeting"];
 
 impl SpaceMeetings {
     fn new(corners: usize, shapes: usize) -> SpaceMeetings {
@@ -141,10 +145,15 @@ impl SpaceMeetings {
             reaches: Default::default(),
             along_a_stretch: 0,
             overlaps: Overlaps::default(),
+            thin: ThinMeetings::new(if corners == 2 { Kind::Wire } else { Kind::Area }),
         }
     }
 
     fn note(&mut self, findings: &SpaceFindings) {
+        if findings.has_flat {
+            self.thin.note(findings);
+            return;
+        }
         let [first, second] = findings.reaches.map(|reach| reach != Reach::Nothing);
         let verdict = usize::from(first || second);
         self.sides[pattern_number(&findings.sides)][verdict] += 1;
@@ -168,6 +177,7 @@ impl SpaceMeetings {
             ]));
         }
         counts.extend(named(self.overlaps.counts()));
+        counts.extend(self.thin.counts());
         let finer = self.fine_counts();
         let met = finer.iter().filter(|(_, count)| *count > 0).count();
         counts.push((format!("finer cases (of {})", finer.len()), met as u64));
@@ -190,9 +200,10 @@ impl SpaceMeetings {
         counts
     }
 
-    /// Each way for the corners to lie about the other's plane, and each kind of plane for pairs in one.
+    /// Each way for the corners to lie about the other's plane, each kind of plane for pairs in one, and each way for a
+    /// flat shape to lie.
     fn fine_counts(&self) -> Vec<Count> {
-        let mut counts = Vec::new();
+        let mut counts = self.thin.fine_counts();
         for (verdict, name) in VERDICTS.iter().enumerate() {
             for (number, met) in self.sides.iter().enumerate() {
                 let sides = self.pattern(number);
