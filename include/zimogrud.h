@@ -39,19 +39,19 @@
  *
  *     refusal                  given where                                                 place
  *     ZG_OFF_GRID          1   a number is below -524288 or above 524288                   its position in that list, from 0
- *     ZG_FLAT_SHAPE        2   a triangle or a segment is flat (not zg_turn and zg_side)   its index in that list, from 0
+ *     ZG_FLAT_SHAPE        2   a triangle is flat (zg_flat and ZG_CALL_PLACE)              0
  *     ZG_WRONG_LENGTH      3   a list has the wrong length                                 its length
  *     ZG_START_BEYOND_END  4   `start` is above the buffer's length (zg_list)              the buffer's length
  *     ZG_TOO_LITTLE_ROOM   5   there are fewer than two numbers a pair from `start` on     how many pairs there are
  *                              (zg_list)
  *
- * A triangle is flat where its corners lie on one line, and a segment where its ends are equal. In zg_list a length is wrong
- * where it is no multiple of nine or is above 9216. A position is that of the number in its whole list, of whatever triangle;
- * an index is 0 in a list of one shape. Refusals 4 and 5 have side 0.
+ * A triangle is flat where its corners lie on one line, equal corners included, and a segment where its ends are equal.
+ * zg_segment, zg_pair and zg_list take a flat shape as the segment or the point that it is; only zg_flat and ZG_CALL_PLACE of
+ * zg_plate refuse one. In zg_list a length is wrong where it is no multiple of nine or is above 9216. A position is that of the
+ * number in its whole list, of whatever triangle. Refusals 4 and 5 have side 0.
  *
  * Of several faults the first counts: 4; 3, first list before second; then 1 and then 2 of the first list, and of the second;
- * 5. In zg_list each triangle is tried for 1 and then for 2 before the next one is. Of several numbers for which 1 could be
- * given, that of the lowest position counts.
+ * 5. Of several numbers of a list for which 1 could be given, that of the lowest position counts.
  *
  * What the caller owes, which no call can see for itself. Each pointer is not null, is aligned for its type and is valid for
  * as many numbers as the length beside it says, for reading and, at `answer`, `answers` and `buffer`, for writing; not null and
@@ -92,7 +92,7 @@
 #define ZG_FIRST 0
 #define ZG_SECOND 1
 
-/* Refusals. zg_plate gives 1, 2 and 6 to 12, the other calls 1 to 5. */
+/* Refusals. zg_plate gives 1, 2 and 6 to 12, zg_flat 1 to 3, zg_list 1 and 3 to 5, the other calls 1 and 3. */
 #define ZG_SERVED 0
 #define ZG_OFF_GRID 1
 #define ZG_FLAT_SHAPE 2
@@ -161,19 +161,29 @@ uint32_t zg_turn(const int32_t *points, size_t points_length, uint64_t *answer, 
  */
 uint32_t zg_side(const int32_t *points, size_t points_length, uint64_t *answer, size_t answer_length);
 
-/* Value: whether the two triangles have a point in common. ZG_APART (0) or ZG_MEETING (1); a touch is meeting. */
+/*
+ * Value: whether the two triangles have a point in common. ZG_APART (0) or ZG_MEETING (1); a touch is meeting. A flat triangle
+ * is refused.
+ */
 uint32_t zg_flat(const int32_t *a, size_t a_length, const int32_t *b, size_t b_length, uint64_t *answer, size_t answer_length);
 
 /*
  * Value: whether the segment a and the triangle b have a point in common. ZG_APART (0) or ZG_MEETING (1); a touch is meeting.
+ * Either may be flat, and is the segment or the point that it is then.
  */
 uint32_t zg_segment(const int32_t *a, size_t a_length, const int32_t *b, size_t b_length, uint64_t *answer,
     size_t answer_length);
 
-/* Value: whether the two triangles have a point in common. ZG_APART (0) or ZG_MEETING (1); a touch is meeting. */
+/*
+ * Value: whether the two triangles have a point in common. ZG_APART (0) or ZG_MEETING (1); a touch is meeting. Either may be
+ * flat, and is the segment or the point that it is then.
+ */
 uint32_t zg_pair(const int32_t *a, size_t a_length, const int32_t *b, size_t b_length, uint64_t *answer, size_t answer_length);
 
-/* Value: how many pairs of a triangle of a and a triangle of b have a point in common; a touch counts. `buffer` gets them. */
+/*
+ * Value: how many pairs of a triangle of a and a triangle of b have a point in common; a touch counts. `buffer` gets them.
+ * Flat triangles are the segments and the points that they are.
+ */
 uint32_t zg_list(const int32_t *a, size_t a_length, const int32_t *b, size_t b_length, uint32_t *buffer, size_t buffer_length,
     size_t start, uint64_t *answer, size_t answer_length);
 

@@ -4,10 +4,11 @@
  *
  * A line of the text is a triangle: whole numbers, x, y and z of one corner after the other. Between numbers stand blanks,
  * commas, semicolons and brackets, in any mixture: (0,0,0) (4,0,0) (0,4,0). Blank lines, and lines whose first mark is #,
- * are passed over, and so is the byte-order mark that some editors put before a text in UTF-8. Whatever the numbers and
- * however many, the library says what is wrong with them. What is no triangle at all is told on standard error, with its line,
- * and ends the program: text that is no whole number, a number that does not fit 32 bits, a line that is too long, a last
- * triangle without a partner. So does a text in UTF-16.
+ * are passed over, and so is the byte-order mark that some editors put before a text in UTF-8. A triangle whose corners lie on
+ * one line is the segment, or the point, that it is. Whatever the numbers and however many, the library says what is wrong
+ * with them. What is no triangle at all is told on standard error, with its line, and ends the program: text that is no whole
+ * number, a number that does not fit 32 bits, a line that is too long, a last triangle without a partner. So does a text in
+ * UTF-16.
  *
  * Exit status: 0 every pair was answered, refusals included; 2 the text was bad, or reading or writing failed.
  */
@@ -166,9 +167,6 @@ static void print_refusal(const uint64_t *answer, const struct triangle *first, 
     case ZG_OFF_GRID:
         printf("'s corner %zu has %c = %ld, off the grid (%d to %d)\n", place / 3 + 1, "xyz"[place % 3],
             (long)refused->numbers[place], -ZG_LIMIT, ZG_LIMIT);
-        break;
-    case ZG_FLAT_SHAPE:
-        puts(" is flat: its corners lie on one line");
         break;
     case ZG_WRONG_LENGTH:
         printf(" has %zu number%s, not %d\n", place, place == 1 ? "" : "s", ZG_TRIANGLE_LENGTH);

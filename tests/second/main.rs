@@ -30,7 +30,7 @@ const DEFAULT_PAIRS: u64 = 1_000_000;
 /// From this many pairs on, a case that never came up is a fault of the inputs.
 const PAIRS_THAT_MEET_ALL_CASES: u64 = 100_000;
 /// The same of the finer cases, of how the shapes lay and of where a listing's faults were: the rarest comes up some
-/// twenty-five times in so many.
+/// twenty times in so many.
 const PAIRS_THAT_MEET_FINER_CASES: u64 = 1_000_000;
 /// A listing has many pairs, so there is one for so many pairs of each other kind.
 const PAIRS_TO_A_LISTING: u64 = 20;
