@@ -240,7 +240,8 @@ impl Tally {
     }
 }
 
-/// What the first list and the second can be refused for, each alone, in a call that knows these refusals; 0 for nothing.
+/// What the first list and the second can be refused for, each alone, in a call that knows these refusals; 0 for
+/// nothing.
 fn fault_pairs(refusals: &[u64]) -> Vec<[usize; 2]> {
     let known = |fault: &usize| *fault == 0 || refusals.contains(&(*fault as u64));
     let faults = || (0..LIST_FAULTS).filter(known);

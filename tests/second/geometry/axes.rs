@@ -64,12 +64,12 @@ fn overlap_of_sound<const N: usize>(first: &[Space; N], second: &Triangle) -> Ov
 
 /// Of any shapes, with axes for differences of whatever dimensions.
 ///
-/// Each edge of the differences goes along a step of one of the shapes, of which a flat one has a single step. Where the
-/// differences fill space, each facet is spanned by two steps, whose product is across it. Where they lie in one plane,
-/// the product of two steps is across that plane; and within it each facet goes along a step, and the product of that
-/// product and the step is across it. Where they lie on one line, along a step, the step is an axis, and the products of
-/// the step with the axes of space tell each point off the line from those on it. Where they are one point, the axes of
-/// space tell it from 0. All these axes are tried in any case.
+/// Each edge of the differences goes along a step of one of the shapes, of which a flat one has a single step. Where
+/// the differences fill space, each facet is spanned by two steps, whose product is across it. Where they lie in one
+/// plane, the product of two steps is across that plane; and within it each facet goes along a step, and the product of
+/// that product and the step is across it. Where they lie on one line, along a step, the step is an axis, and the
+/// products of the step with the axes of space tell each point off the line from those on it. Where they are one point,
+/// the axes of space tell it from 0. All these axes are tried in any case.
 ///
 /// The numbers are bounded as above.
 fn overlap_of_thin<const N: usize>(first: &[Space; N], second: &Triangle) -> Overlap {

@@ -47,12 +47,12 @@ pub fn edge_reach(first: &Triangle, second: &Triangle) -> Reach {
         .fold(Reach::Nothing, Reach::max)
 }
 
-/// A triangle that isn't flat is the common part of five half-spaces: the two sides of its plane, and the inner sides of three walls.
-/// A wall stands over an edge, along an axis that the plane doesn't contain. Along that axis no two points of the
-/// plane cover each other, so a point of the plane lies in the triangle exactly when it is in the triangle's shadow.
-/// No case is special: a segment within the plane keeps all of itself between the plane's sides, one within a wall, on
-/// the line of an edge, keeps all of itself at that wall, and the others cut it; of one that only touches, a point is
-/// left.
+/// A triangle that isn't flat is the common part of five half-spaces: the two sides of its plane, and the inner sides
+/// of three walls. A wall stands over an edge, along an axis that the plane doesn't contain. Along that axis no two
+/// points of the plane cover each other, so a point of the plane lies in the triangle exactly when it is in the
+/// triangle's shadow. No case is special: a segment within the plane keeps all of itself between the plane's sides, one
+/// within a wall, on the line of an edge, keeps all of itself at that wall, and the others cut it; of one that only
+/// touches, a point is left; and one with equal ends is kept or cut off as a whole.
 ///
 /// A height is at most 3 * 2^61 in size, by document 01; a place at a wall is a turn, at most 2^41.
 fn part_inside(segment: &Segment, triangle: &Triangle) -> Option<Part> {
@@ -69,9 +69,9 @@ fn part_inside(segment: &Segment, triangle: &Triangle) -> Option<Part> {
     Some(part)
 }
 
-/// The other segment is the points r + u (s - r) with u from 0 to 1. At the coordinate in which it is longest, a point x
-/// of the segment tells what u must be, (x - r) / (s - r) there. So x is on the other segment where this u is from 0 to 1
-/// and the other two coordinates agree with it, all of which is linear in x. Where r is s, x must be r in each
+/// The other segment is the points r + u (s - r) with u from 0 to 1. At the coordinate in which it is longest, a point
+/// x of the segment tells what u must be, (x - r) / (s - r) there. So x is on the other segment where this u is from 0
+/// to 1 and the other two coordinates agree with it, all of which is linear in x. Where r is s, x must be r in each
 /// coordinate. No number here is above 2^41 in size.
 fn part_on(segment: &Segment, [r, s]: &Segment) -> Option<Part> {
     let step = minus(*s, *r);

@@ -1,5 +1,5 @@
-//! What a segment or a triangle of space really is: an area, a wire or a pin. A triangle whose corners lie on one line is
-//! a wire, and where they are all equal a pin; a segment is a wire, and where its ends are equal a pin.
+//! What a segment or a triangle of space really is: an area, a wire or a pin. A triangle whose corners lie on one line
+//! is a wire, and where they are all equal a pin; a segment is a wire, and where its ends are equal a pin.
 //!
 //! With coordinates of at most 2^31 no number here is above 2^99 in size.
 
@@ -46,7 +46,7 @@ pub fn span_of(first: &[Space], second: &[Space]) -> usize {
     dimensions_of(&steps)
 }
 
-/// Of all that the steps lead to, whatever the order and however often each is taken.
+/// How many dimensions all that has to which the steps lead, in whatever order and however often each is taken.
 fn dimensions_of(steps: &[Space]) -> usize {
     let Some(along) = steps.iter().find(|step| **step != [0; 3]) else {
         return 0;

@@ -1,5 +1,6 @@
-//! Flat triangles of space, the wires and pins of scanned parts, made from the triangles of any pair: so a wire or a pin
-//! has to do with the other shape as the triangle had. An edge of a flat triangle is a flat segment or not.
+//! Flat triangles of space, the wires and pins of scanned parts, made from the triangles of any pair: so a wire or a
+//! pin has to do with the other shape as the triangle had. A segment is made of two corners of one, so it is a wire or
+//! a pin.
 
 use super::space::{any_lists, tiny_lists};
 use super::{moved, Lists};

@@ -221,8 +221,8 @@ fn in_one_list(list: &ListFaults) -> [bool; IN_ONE_LIST.len()] {
     ]
 }
 
-/// Each position in the first two triangles must have been the lowest bad one, and each length next to that of few and of
-/// most triangles given.
+/// Each position in the first two triangles must have been the lowest bad one, and each length next to that of few and
+/// of most triangles given.
 pub fn wanted_refusals(side: u64) -> Vec<Refusal> {
     let most_numbers = TRIANGLE_NUMBERS * MOST_TRIANGLES;
     let positions = (0..2 * TRIANGLE_NUMBERS).map(|place| (OFF_GRID, place));

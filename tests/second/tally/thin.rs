@@ -1,4 +1,5 @@
-//! Counts of the pairs in space of which one shape is flat, or both: what they were, how they lay, and what they shared.
+//! Counts of the pairs in space of which one shape is flat, or both: what they were, how they lay, and what they
+//! shared.
 
 use super::meetings::VERDICTS;
 use super::Count;
@@ -62,8 +63,8 @@ impl ThinMeetings {
         counts
     }
 
-    /// Two shapes have at least as many dimensions together as either, and at most one more than both added, if they are
-    /// apart; else at most as many as both added. Of two pins at one point, the point is inner to both.
+    /// Two shapes have at least as many dimensions together as either, and at most one more than both added, if they
+    /// are apart; else at most as many as both added. Of two pins at one point, the point is inner to both.
     fn can_be(&self, kinds: [Kind; 2], span: usize, overlap: Overlap) -> bool {
         let [one, other] = kinds;
         let has_flat = one < self.first_kind || other < Kind::Area;
