@@ -8,16 +8,11 @@ use lib.IntN.{ℤ}
 use lib.ListN.{set, getD, length, take, drop, length-append, length-set, List·getD-map}
 use lib.Seq.{split-at, set-split, take-at, drop-at}
 use Rattle.algebra.proofs.Parts.{length-lent}
-use Rattle.slots.specs.Slots.{Slot, free, held}
+use Rattle.slots.specs.Slots.{Slot, free}
 use Rattle.slots.specs.Arrays.{numbersOf, markOf, flat}
 use Rattle.slots.specs.Showing.{FitSlot, Fit, nineAt, Shown}
 
--- A slot as accepted changes leave it has nine numbers.
-nine : (x : Slot) → FitSlot x → length (numbersOf x) ≡ 9
-nine free f = refl
-nine (held p numbers) f = f .ready .long
-
--- All slots of a list are such. (Past the end stands an empty one.)
+-- All slots of a list are fit. (Past the end stands an empty one.)
 abbrev AllFit : List Slot → Type 0
 AllFit S = (i : ℕ) → FitSlot (getD S i free)
 
@@ -32,7 +27,7 @@ flat-front : (S : List Slot) (i : ℕ) → AllFit S → i ≤ length S → lengt
 unfolding flat
 flat-front S zero f h = omega arith
 flat-front [] (suc i) f h = absurd (omega arith)
-flat-front (x ∷ S) (suc i) f h = simp length-append (omega (arith, nine x (f 0), flat-front S i (λ k. f (suc k)) (omega arith)))
+flat-front (x ∷ S) (suc i) f h = simp length-append (omega (arith, f 0 .long, flat-front S i (λ k. f (suc k)) (omega arith)))
 
 module _ (S : List Slot) (i : ℕ) (fit : AllFit S) (h : i < length S) where
   split : (x : Slot) → flat (take i S ++ x ∷ drop (suc i) S) ≡ flat (take i S) ++ (numbersOf x ++ flat (drop (suc i) S))
@@ -50,7 +45,7 @@ module _ (S : List Slot) (i : ℕ) (fit : AllFit S) (h : i < length S) where
   flat-read =
       ap (λ (l : List ℤ). take 9 (drop (9 * i) l)) whole
       ∙ ap (take 9) (drop-at (flat (take i S)) (numbersOf (getD S i free) ++ flat (drop (suc i) S)) (9 * i) front)
-      ∙ take-at (numbersOf (getD S i free)) (flat (drop (suc i) S)) 9 (nine (getD S i free) (fit i))
+      ∙ take-at (numbersOf (getD S i free)) (flat (drop (suc i) S)) 9 (fit i .long)
 
   -- Nine numbers written there are the slot anew.
   flat-write : (x : Slot) (n : ℕ) → n ≡ 9 → putMid (9 * i) n (flat S) (numbersOf x) ≡ flat (set S i x)
@@ -60,7 +55,7 @@ module _ (S : List Slot) (i : ℕ) (fit : AllFit S) (h : i < length S) where
       let behind = flat (drop (suc i) S) in
       (λ k. take (9 * i) (whole k) ++ (numbersOf x ++ drop (e k) (drop (9 * i) (whole k))))
       ∙ (λ k. take-at before (old ++ behind) (9 * i) front k ++ (numbersOf x ++ drop 9 (drop-at before (old ++ behind) (9 * i) front k)))
-      ∙ ap (λ (l : List ℤ). before ++ (numbersOf x ++ l)) (drop-at old behind 9 (nine (getD S i free) (fit i)))
+      ∙ ap (λ (l : List ℤ). before ++ (numbersOf x ++ l)) (drop-at old behind 9 (fit i .long))
       ∙ sym (split x)
       ∙ sym (ap flat (set-split S i x h))
 

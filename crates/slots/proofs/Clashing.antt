@@ -1,6 +1,6 @@
--- From the decision that code computes (specs/Counting.antt) to the definition (specs/Slots.antt): on slots that are fit, two slots strike
--- exactly when they clash, the tally is the number of clashing pairs, and two marks strike exactly when their parts clash. That number is one
--- whatever the slots are. Assumes nothing.
+-- From the decision that code computes (specs/Counting.antt) to the definition (specs/Slots.antt), whatever the slots are: two slots strike
+-- exactly when they clash, so both ways alike; the tally is the number of clashing pairs, and there is one such number; and two marks strike
+-- exactly when their parts clash. Assumes nothing.
 use mathlib.Core.Path.{_≡_, refl, sym, ap, ap₂, _∙_}
 use mathlib.Core.Bool.{Bool, true, false, cond}
 use mathlib.Core.List.{List, [], _∷_, map}
@@ -16,64 +16,56 @@ use mir.Val.{boolByte}
 use Rattle.shape.specs.Points.{pointAt}
 use Rattle.shape.specs.Sharing.{Share}
 use Rattle.shape.specs.Verdicts.{Says}
-use Rattle.shape.proofs.SpaceTest.{space-test}
+use Rattle.shape.proofs.WireTest.{triangles-test}
 use Rattle.shape.proofs.Trading.{share-trade}
 use Rattle.shape.proofs.VerdictLaws.{says-yes, says-no, says-same, says-fixed}
-use Rattle.exact.specs.Grid.{Passed}
 use Rattle.slots.specs.Slots.{Slot, free, held, triangle, isOf, Clash, Clashing, none, one, pass, Clashes, empty, with, PartsClash}
 use Rattle.slots.specs.Searches.{some}
-use Rattle.slots.specs.Arrays.{numbersOf, markOf}
-use Rattle.slots.specs.Counting.{testOf, meets, strikes, hit, row, tally, hasMark, strikesIf, strikesMark, slotStrikes, marksStrike}
-use Rattle.slots.specs.Showing.{FitSlot}
+use Rattle.slots.specs.Arrays.{markOf}
+use Rattle.slots.specs.Counting.{meets, strikes, hit, row, tally, hasMark, strikesIf, strikesMark, slotStrikes, marksStrike}
 use Rattle.slots.proofs.Searching.{some-at, some-found}
 
 -- ---- two triangles
-tested : (s t : List ℤ) → Passed 3 3 s → Passed 3 3 t → Says (testOf s t) (Share 3 (triangle s) (triangle t))
-tested s t f g =
-    space-test (pointAt 3 0 s) (pointAt 3 3 s) (pointAt 3 6 s) (pointAt 3 0 t) (pointAt 3 3 t) (pointAt 3 6 t) (f .not-flat) (g .not-flat)
-
-decided : (s t : List ℤ) → Passed 3 3 s → Passed 3 3 t → Says (meets s t) (Share 3 (triangle s) (triangle t))
+pub meets-says : (s t : List ℤ) → Says (meets s t) (Share 3 (triangle s) (triangle t))
 unfolding meets
-decided s t f g = both (tested s t f g) (says-same (share-trade, share-trade) (tested t s g f))
-  where
-    both : {a b : Bool} {Claim : Type 0} → Says a Claim → Says b Claim → Says (cond a b false) Claim
-    both {a = true} x y = y
-    both {a = false} x y = x
-
--- A verdict that is right is that of the decision.
-pub meets-by : (s t : List ℤ) (v : Bool) → Passed 3 3 s → Passed 3 3 t → Says v (Share 3 (triangle s) (triangle t)) → v ≡ meets s t
-meets-by s t v f g right = says-fixed right (decided s t f g)
+meets-says s t =
+    triangles-test (pointAt 3 0 s) (pointAt 3 3 s) (pointAt 3 6 s) (pointAt 3 0 t) (pointAt 3 3 t) (pointAt 3 6 t)
 
 -- ---- two slots
-strikes-says : (x y : Slot) → FitSlot x → FitSlot y → Says (strikes x y) (Clash x y)
+strikes-says : (x y : Slot) → Says (strikes x y) (Clash x y)
 unfolding strikes
-strikes-says free y f g = says-no (λ c. c)
-strikes-says (held p s) free f g = says-no (λ c. c)
-strikes-says (held p s) (held q t) f g = by-parts (eqb p q) refl
+strikes-says free y = says-no (λ c. c)
+strikes-says (held p s) free = says-no (λ c. c)
+strikes-says (held p s) (held q t) = by-parts (eqb p q) refl
   where
     by-parts : (b : Bool) → eqb p q ≡ b → Says (cond b false (meets s t)) (Clash (held p s) (held q t))
     by-parts true e = says-no (λ c. c .0 (eqb-true p q e))
-    by-parts false e = says-same ((λ c. (eqb-false p q e, c)), (λ c. c .1)) (decided s t f g)
+    by-parts false e = says-same ((λ c. (eqb-false p q e, c)), (λ c. c .1)) (meets-says s t)
 
--- The triangle of a filled slot passed its checks.
-pub fit-held : (x : Slot) → (markOf x ≡ 0 → ⊥) → FitSlot x → Passed 3 3 (numbersOf x)
-fit-held free f g = absurd (f refl)
-fit-held (held p s) f g = g
+-- Both slots of a clash are alike.
+clash-trade : (x y : Slot) → Clash x y → Clash y x
+clash-trade (held p s) (held q t) c = ((λ e. c .0 (sym e)), share-trade (c .1))
+clash-trade (held p s) free c = c
+clash-trade free (held q t) c = c
+clash-trade free free c = c
+
+pub strikes-sym : (x y : Slot) → strikes x y ≡ strikes y x
+strikes-sym x y = says-fixed (strikes-says x y) (says-same (clash-trade y x, clash-trade x y) (strikes-says y x))
 
 -- ---- the count
-clashing-true : (x : Slot) (S : List Slot) → FitSlot x → ((i : ℕ) → FitSlot (getD S i free)) → Clashing x S (row x S)
+clashing-true : (x : Slot) (S : List Slot) → Clashing x S (row x S)
 unfolding row hit
-clashing-true x [] f g = none
-clashing-true x (y ∷ S) f g = by-test (strikes x y) (strikes-says x y f (g 0)) (clashing-true x S f (λ i. g (suc i)))
+clashing-true x [] = none
+clashing-true x (y ∷ S) = by-test (strikes x y) (strikes-says x y) (clashing-true x S)
   where
     by-test : (b : Bool) → Says b (Clash x y) → Clashing x S (row x S) → Clashing x (y ∷ S) (boolByte b + row x S)
     by-test true says later = rw one-add (one (says .yes refl) later)
     by-test false says later = rw zero-add (pass (says .no refl) later)
 
-pub clashes-true : (S : List Slot) → ((i : ℕ) → FitSlot (getD S i free)) → Clashes S (tally S)
+pub clashes-true : (S : List Slot) → Clashes S (tally S)
 unfolding tally
-clashes-true [] f = empty
-clashes-true (x ∷ S) f = with (clashing-true x S (f 0) (λ i. f (suc i))) (clashes-true S (λ i. f (suc i)))
+clashes-true [] = empty
+clashes-true (x ∷ S) = with (clashing-true x S) (clashes-true S)
 
 clashing-unique : {x : Slot} {S : List Slot} {m n : ℕ} → Clashing x S m → Clashing x S n → m ≡ n
 clashing-unique none none = refl
@@ -86,8 +78,8 @@ pub clashes-unique : {S : List Slot} {m n : ℕ} → Clashes S m → Clashes S n
 clashes-unique empty empty = refl
 clashes-unique (with a h) (with b k) = ap₂ _+_ (clashing-unique a b) (clashes-unique h k)
 
-pub clashes-only : (S : List Slot) {n : ℕ} → ((i : ℕ) → FitSlot (getD S i free)) → Clashes S n → n ≡ tally S
-clashes-only S f h = clashes-unique h (clashes-true S f)
+pub clashes-only : (S : List Slot) {n : ℕ} → Clashes S n → n ≡ tally S
+clashes-only S h = clashes-unique h (clashes-true S)
 
 -- ---- parts
 mark-of : (q : ℕ) (x : Slot) → eqb (markOf x) (suc q) ≡ isOf q x
@@ -108,8 +100,8 @@ cond-true : (a b : Bool) → cond a b false ≡ true → (a ≡ true) × (b ≡ 
 cond-true true b e = (refl, e)
 cond-true false b e = let z : _≡_ {A = ℕ} 0 1 = cc in absurd (omega arith)
 
-pub parts-says : (S : List Slot) (p q : ℕ) → ((i : ℕ) → FitSlot (getD S i free)) → Says (marksStrike (suc p) (suc q) S) (PartsClash S p q)
-parts-says S p q fit = record { yes = found; no = λ e c. let z : _≡_ {A = ℕ} 0 1 = cc (finds c) in omega arith }
+pub parts-says : (S : List Slot) (p q : ℕ) → Says (marksStrike (suc p) (suc q) S) (PartsClash S p q)
+parts-says S p q = record { yes = found; no = λ e c. let z : _≡_ {A = ℕ} 0 1 = cc (finds c) in omega arith }
   where
     at : ℕ → Slot
     at i = getD S i free
@@ -126,14 +118,14 @@ parts-says S p q fit = record { yes = found; no = λ e c. let z : _≡_ {A = ℕ
           j = second .i;
           of-p = sym (mark-of p x) ∙ of-first .0;
           of-q = sym (mark-of q y) ∙ of-second .0;
-          clash = strikes-says x y (fit (first .i)) (fit (second .i)) .yes (of-second .1);
+          clash = strikes-says x y .yes (of-second .1);
         }
 
     finds : PartsClash S p q → marksStrike (suc p) (suc q) S ≡ true
     finds c =
         let x = at (c .i) in
         let y = at (c .j) in
-        let strike : strikes x y ≡ true = says-fixed (strikes-says x y (fit (c .i)) (fit (c .j))) (says-yes (c .clash)) in
+        let strike : strikes x y ≡ true = says-fixed (strikes-says x y) (says-yes (c .clash)) in
         let second = some-at (strikesIf (suc q) x) free S (c .j) (of-inside q S (c .j) (c .of-q)) (rw (mark-of q y ∙ c .of-q) strike) in
         some-at (slotStrikes (suc p) (suc q) S) free S (c .i) (of-inside p S (c .i) (c .of-p)) (rw (mark-of p x ∙ c .of-p) second)
 

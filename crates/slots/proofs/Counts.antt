@@ -8,7 +8,7 @@ use native.Mathlib.Nat.{mul-suc}
 use native.Mathlib.Numerals.{add-one}
 use native.Mathlib.Omega.{arith}
 use borrow.Author.Tests.{eq-eqb, ne-eqb, eqb-true}
-use lib.Dec.{eqb, eqb·zero-suc, eqb·suc-zero, eqb·suc-suc}
+use lib.Dec.{eqb, eqb·suc-suc}
 use lib.IntN.{ℤ}
 use lib.ListN.{length, getD, take, set, length-set, length-map}
 use lib.Seq.{set-set, take-all}
@@ -17,32 +17,10 @@ use Rattle.shape.specs.Points.{moved}
 use Rattle.slots.specs.Slots.{Slot, free, held}
 use Rattle.slots.specs.Changes.{shifted}
 use Rattle.slots.specs.Arrays.{numbersOf, markOf}
-use Rattle.slots.specs.Counting.{testOf, meets, strikes, hit, row, tally, rowOf, cross}
+use Rattle.slots.specs.Counting.{meets, strikes, hit, row, tally, rowOf, cross}
+use Rattle.slots.proofs.Clashing.{strikes-sym}
 
 -- ---- two slots
-eqb-sym : (p q : ℕ) → eqb p q ≡ eqb q p
-eqb-sym zero zero = refl
-eqb-sym zero (suc q) = eqb·zero-suc q ∙ sym (eqb·suc-zero q)
-eqb-sym (suc p) zero = eqb·suc-zero p ∙ sym (eqb·zero-suc p)
-eqb-sym (suc p) (suc q) = eqb·suc-suc p q ∙ eqb-sym p q ∙ sym (eqb·suc-suc q p)
-
-meets-sym : (s t : List ℤ) → meets s t ≡ meets t s
-unfolding meets
-meets-sym s t = both (testOf s t) (testOf t s)
-  where
-    both : (a b : Bool) → cond a b false ≡ cond b a false
-    both true true = refl
-    both true false = refl
-    both false true = refl
-    both false false = refl
-
-pub strikes-sym : (x y : Slot) → strikes x y ≡ strikes y x
-unfolding strikes
-strikes-sym free free = refl
-strikes-sym free (held q t) = refl
-strikes-sym (held p s) free = refl
-strikes-sym (held p s) (held q t) = λ i. cond (eqb-sym p q i) false (meets-sym s t i)
-
 -- By their marks: an empty slot strikes none, nor do two of one part, and others strike where their triangles meet.
 pub strikes-free : (x y : Slot) → markOf x ≡ 0 → strikes x y ≡ false
 unfolding strikes

@@ -1,5 +1,5 @@
--- Coordinates on the grid: all those of slots that accepted changes left, and each slot's part of any that are. Assumes nothing.
-use mathlib.Core.Path.{_≡_, sym, ap, _∙_}
+-- Coordinates on the grid: all those of fit slots, and each slot's part of any that are. Assumes nothing.
+use mathlib.Core.Path.{_≡_, refl, sym, ap, _∙_}
 use mathlib.Core.Bool.{Bool, true, false, cond}
 use mathlib.Core.List.{List, [], _∷_, _++_}
 use Prim.Native.Nat.{ℕ, zero, suc, _+_, _-_, _*_, _<_, _≤_}
@@ -12,7 +12,7 @@ use Rattle.shape.proofs.VerdictLaws.{says-yes, says-fixed}
 use Rattle.exact.specs.Grid.{limit, Ready}
 use Rattle.checks.specs.Grid.{lowestOff, allOn}
 use Rattle.checks.proofs.GridLaws.{all-on, all-on-says, none-off}
-use Rattle.slots.specs.Slots.{Slot, free, held}
+use Rattle.slots.specs.Slots.{Slot, free}
 use Rattle.slots.specs.Arrays.{numbersOf, flat}
 use Rattle.slots.specs.Showing.{FitSlot, Shown}
 
@@ -41,20 +41,20 @@ small-zeros zero k = omega arith
 small-zeros (suc n) zero = omega arith
 small-zeros (suc n) (suc k) = small-zeros n k
 
-small-slot : (x : Slot) → FitSlot x → Small (numbersOf x)
-small-slot free f = small-zeros 9
-small-slot (held p numbers) f = f .ready .each
+-- An empty slot is fit.
+pub free-fits : FitSlot free
+free-fits = record { long = refl; each = small-zeros 9 }
 
 small-slots : (S : List Slot) → ((i : ℕ) → FitSlot (getD S i free)) → Small (flat S)
 unfolding flat
 small-slots [] f k = omega arith
-small-slots (x ∷ S) f k = small-append (numbersOf x) (flat S) (small-slot x (f 0)) (small-slots S (λ i. f (suc i))) k
+small-slots (x ∷ S) f k = small-append (numbersOf x) (flat S) (f 0 .each) (small-slots S (λ i. f (suc i))) k
 
 -- Both ways from the test that code makes of all numbers.
-small-on : (l : List ℤ) → Small l → allOn l ≡ true
+pub small-on : (l : List ℤ) → Small l → allOn l ≡ true
 small-on l h = says-fixed (all-on-says l) (says-yes (λ k i. le-leb (natAbs (getD l k (pos 0))) limit (h k)))
 
-on-small : (l : List ℤ) → allOn l ≡ true → Small l
+pub on-small : (l : List ℤ) → allOn l ≡ true → Small l
 on-small l on = all-on l (ltb-false (lowestOff l) (length l) (none-off l on))
 
 -- Arrays that show slots have their coordinates on the grid.

@@ -1,21 +1,17 @@
 -- A part moved: its triangles, which of them stay on the grid, and the same move backwards. Assumes nothing.
-use mathlib.Core.Path.{_≡_, refl, ap, subst, _∙_}
+use mathlib.Core.Path.{_≡_, refl, ap, _∙_}
 use mathlib.Core.Bool.{Bool, true, false, not, cond}
 use mathlib.Core.List.{List, [], _∷_, map}
 use Prim.Native.Nat.{ℕ, suc, _≤_}
 use native.Mathlib.Omega.{arith}
-use borrow.Author.Tests.{eq-eqb, le-leb, ltb-false, ltb-true, ne-eqb, not-false}
+use borrow.Author.Tests.{eq-eqb, ltb-false, ltb-true, ne-eqb, not-false}
 use lib.Dec.{eqb, ltb}
-use lib.IntN.{ℤ, pos, natAbs, _+ℤ_}
+use lib.IntN.{ℤ, _+ℤ_}
 use lib.ListN.{getD, length, length-map, List·getD-eq-default, List·getD-map}
-use Rattle.shape.specs.Flat.{Flat}
-use Rattle.shape.specs.Points.{Shape, coord, moved, movedAll}
-use Rattle.shape.proofs.Lines.{flat-moved}
+use Rattle.shape.specs.Points.{coord, moved, movedAll}
 use Rattle.shape.proofs.Trading.{coord-moved}
-use Rattle.shape.proofs.VerdictLaws.{says-yes, says-fixed}
-use Rattle.exact.specs.Grid.{limit, Passed}
-use Rattle.checks.specs.Grid.{lowestOff, allOn}
-use Rattle.checks.proofs.GridLaws.{all-on, all-on-says, none-off}
+use Rattle.exact.specs.Grid.{Ready}
+use Rattle.checks.specs.Grid.{allOn}
 use Rattle.moving.specs.Moves.{steps}
 use Rattle.moving.proofs.MoveLaws.{length-moved, moved-back}
 use Rattle.slots.specs.Slots.{Slot, free, held, triangle}
@@ -24,6 +20,7 @@ use Rattle.slots.specs.Searches.{lowest, leaves}
 use Rattle.slots.specs.Arrays.{numbersOf, markOf}
 use Rattle.slots.specs.Showing.{FitSlot, Fit}
 use Rattle.slots.proofs.Searching.{below-lowest}
+use Rattle.slots.proofs.Grids.{on-small}
 
 -- ---- one triangle
 -- Where its nine numbers move by the steps, its corners move by the vector.
@@ -35,25 +32,13 @@ moved-triangle dx dy dz numbers long =
     at : (k : ℕ) → coord k (moved (thrice dx dy dz) numbers) ≡ coord k (thrice dx dy dz) +ℤ coord k numbers
     at k = coord-moved k (thrice dx dy dz) numbers
 
--- On the grid it passes its checks again.
-moved-passed : (dx dy dz : ℤ) (numbers : List ℤ) → Passed 3 3 numbers → allOn (moved (thrice dx dy dz) numbers) ≡ true →
-    Passed 3 3 (moved (thrice dx dy dz) numbers)
-moved-passed dx dy dz numbers p on =
-    let l = moved (thrice dx dy dz) numbers in
-    let long : length numbers ≡ 9 = p .ready .long in
-    let corners = moved-triangle dx dy dz numbers long in
-    record {
-      ready = record {
-        long = length-moved (thrice dx dy dz) numbers (omega arith) ∙ long;
-        each = all-on l (ltb-false (lowestOff l) (length l) (none-off l on));
-      };
-      not-flat = λ f.
-          p .not-flat (flat-moved 3 (dx ∷ dy ∷ dz ∷ []) (triangle numbers) .1 (subst (λ (P : Shape). Flat 3 P) corners f));
-    }
-
-pub passed-on-grid : (numbers : List ℤ) → Passed 3 3 numbers → allOn numbers ≡ true
-passed-on-grid numbers p =
-    says-fixed (all-on-says numbers) (says-yes (λ k l. le-leb (natAbs (getD numbers k (pos 0))) limit (p .ready .each k)))
+-- Nine numbers, moved, are nine again.
+moved-ready : (dx dy dz : ℤ) (numbers : List ℤ) → length numbers ≡ 9 → allOn (moved (thrice dx dy dz) numbers) ≡ true →
+    Ready 9 (moved (thrice dx dy dz) numbers)
+moved-ready dx dy dz numbers long on = record {
+  long = length-moved (thrice dx dy dz) numbers (omega arith) ∙ long;
+  each = on-small (moved (thrice dx dy dz) numbers) on;
+}
 
 -- ---- one slot
 module _ (q : ℕ) (by : List ℤ) where
@@ -75,10 +60,6 @@ module _ (q : ℕ) (by : List ℤ) where
   shifted-own free h = absurd (omega arith)
   shifted-own (held p numbers) h = ap numbersOf (shifted-held p numbers h)
 
-  pub fit-shifted-own : (x : Slot) → markOf x ≡ suc q → FitSlot (shifted q by x) → Passed 3 3 (moved by (numbersOf x))
-  fit-shifted-own free h f = absurd (omega arith)
-  fit-shifted-own (held p numbers) h f = subst (λ (y : Slot). FitSlot y) (shifted-held p numbers h) f
-
   pub leaves-own : (x : Slot) → markOf x ≡ suc q → leaves q by x ≡ not (allOn (moved by (numbersOf x)))
   leaves-own free h = absurd (omega arith)
   leaves-own (held p numbers) h = rw (eq-eqb p q (omega arith))
@@ -90,7 +71,7 @@ module _ (q : ℕ) (by : List ℤ) where
     where
       by-test : (t : Bool) → eqb p q ≡ t →
           shifted q (steps true by) (cond t (held p (moved by numbers)) (held p numbers)) ≡ held p numbers
-      by-test true e = rw e (ap (held p) (moved-back by numbers (omega (arith, f .ready .long))))
+      by-test true e = rw e (ap (held p) (moved-back by numbers (omega (arith, f .long))))
       by-test false e = rw e
 
   pub shifted-at : (S : List Slot) (i : ℕ) → getD (map (shifted q by) S) i free ≡ shifted q by (getD S i free)
@@ -104,12 +85,12 @@ module _ (q : ℕ) (by : List ℤ) where
 
 slot-stays : (q : ℕ) (dx dy dz : ℤ) (x : Slot) → FitSlot x → leaves q (thrice dx dy dz) x ≡ false →
     FitSlot (shifted q (thrice dx dy dz) x)
-slot-stays q dx dy dz free f on = tt
+slot-stays q dx dy dz free f on = f
 slot-stays q dx dy dz (held p numbers) f on = by-test (eqb p q) on
   where
     by-test : (t : Bool) → cond t (not (allOn (moved (thrice dx dy dz) numbers))) false ≡ false →
         FitSlot (cond t (held p (moved (thrice dx dy dz) numbers)) (held p numbers))
-    by-test true e = moved-passed dx dy dz numbers f (not-false (allOn (moved (thrice dx dy dz) numbers)) e)
+    by-test true e = moved-ready dx dy dz numbers (f .long) (not-false (allOn (moved (thrice dx dy dz) numbers)) e)
     by-test false e = f
 
 -- Where no slot leaves the grid, the slots are fit again.

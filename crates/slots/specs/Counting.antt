@@ -1,5 +1,5 @@
 -- The count as code keeps it: a function, by the decision of crate `shape`. No public promise speaks of it: proofs/Clashing.antt shows that
--- on slots that accepted changes leave it is the count of specs/Slots.antt.
+-- it is the count of specs/Slots.antt, whatever the slots are.
 use mathlib.Core.Bool.{Bool, false, cond}
 use mathlib.Core.List.{List, [], _∷_}
 use Prim.Native.Nat.{ℕ, _+_}
@@ -7,19 +7,15 @@ use lib.Dec.{eqb}
 use lib.IntN.{ℤ}
 use mir.Val.{boolByte}
 use Rattle.shape.specs.Points.{pointAt}
-use Rattle.shape.specs.SpaceTest.{spaceTest}
+use Rattle.shape.specs.WireTest.{trianglesTest}
 use Rattle.slots.specs.Slots.{Slot, free, held}
 use Rattle.slots.specs.Searches.{some}
 use Rattle.slots.specs.Arrays.{markOf}
 
 -- The test of two triangles, nine numbers each.
-abbrev pub testOf : List ℤ → List ℤ → Bool
-testOf s t =
-    spaceTest (pointAt 3 0 s) (pointAt 3 3 s) (pointAt 3 6 s) (pointAt 3 0 t) (pointAt 3 3 t) (pointAt 3 6 t)
-
--- Asked both ways, so that it is symmetric whatever the numbers are.
 unfoldable pub meets : List ℤ → List ℤ → Bool
-meets s t = cond (testOf s t) (testOf t s) false
+meets s t =
+    trianglesTest (pointAt 3 0 s) (pointAt 3 3 s) (pointAt 3 6 s) (pointAt 3 0 t) (pointAt 3 3 t) (pointAt 3 6 t)
 
 -- Whether two slots clash.
 unfoldable pub strikes : Slot → Slot → Bool

@@ -5,16 +5,15 @@ use mathlib.Core.List.{List, map}
 use Prim.Native.Nat.{ℕ, suc, _*_}
 use lib.IntN.{ℤ}
 use lib.ListN.{getD, length, set, take, drop}
-use Rattle.exact.specs.Grid.{Passed}
+use Rattle.exact.specs.Grid.{Ready}
 use Rattle.checks.specs.Grid.{allOn}
-use Rattle.slots.specs.Slots.{Slot, free, held}
+use Rattle.slots.specs.Slots.{Slot, free}
 use Rattle.slots.specs.Changes.{shifted}
-use Rattle.slots.specs.Arrays.{markOf, flat}
+use Rattle.slots.specs.Arrays.{numbersOf, markOf, flat}
 
--- A slot as accepted changes leave it: empty, or a triangle that passed its checks.
+-- A slot that the arrays can show and the tests can take: nine numbers on the grid. (An empty one has nine zeros.)
 abbrev pub FitSlot : Slot → Type 0
-FitSlot free = Unit {0}
-FitSlot (held p numbers) = Passed 3 3 numbers
+FitSlot x = Ready 9 (numbersOf x)
 
 -- 64 such slots. (Past the end stands an empty one.)
 pub record Fit (S : List Slot) : Type 0 where

@@ -7,7 +7,6 @@ ghost use mathlib.Core.Bool.{true};
 ghost use mathlib.Core.List.{List};
 ghost use Prim.Native.Nat.{_≤_, _<_};
 ghost use lib.ListN.{length, getD};
-ghost use Rattle.exact.specs.Grid.{Passed};
 ghost use Rattle.checks.specs.Grid.{allOn};
 ghost use Rattle.slots.specs.Slots.{Slot, free};
 ghost use Rattle.slots.specs.Searches.{some};
@@ -17,7 +16,7 @@ ghost use Rattle.slots.specs.Showing.{nineAt, Sized, Shown};
 // Whether the triangles of two slots have a point in common.
 fn slots_meet(coords: &[i32], i: usize, j: usize) -> bool
     requires { ⌜ (length (now coords) ≡ 576) × (allOn (now coords) ≡ true) × (i < 64) × (j < 64) ⌝ }
-    ensures { λ r. ⌜ (Passed 3 3 (nineAt i (now (coords .entry))) → Passed 3 3 (nineAt j (now (coords .entry))) → r ≡ meets (nineAt i (now (coords .entry))) (nineAt j (now (coords .entry)))) ⌝ }
+    ensures { λ r. ⌜ r ≡ meets (nineAt i (now (coords .entry))) (nineAt j (now (coords .entry))) ⌝ }
 {
     triangles_meet(&coords[9 * i..9 * i + 9], &coords[9 * j..9 * j + 9])
 }

@@ -1,11 +1,9 @@
 -- `slots::coordinates::move_slot` meets its contract: the nine numbers at a slot with the mark are moved in place, and any other slot is what it
 -- was. Assumes nothing.
 use mathlib.Core.Path.{_≡_, sym, ap, _∙_}
-use mathlib.Core.List.{List}
 use Prim.Native.Nat.{suc, _+_, _-_, _*_}
 use native.Mathlib.Omega.{arith}
 use borrow.Author.Needs.{needs}
-use lib.IntN.{ℤ}
 use lib.ListN.{set, getD, take, drop}
 use lib.Seq.{set-getD}
 use Rattle.algebra.proofs.Parts.{part}
@@ -15,7 +13,8 @@ use Rattle.moving.specs.Moves.{steps}
 use Rattle.slots.specs.Slots.{free}
 use Rattle.slots.specs.Changes.{shifted}
 use Rattle.slots.specs.Arrays.{numbersOf, markOf, flat}
-use Rattle.slots.proofs.Sliding.{fit-shifted-own, passed-on-grid, shifted-other, shifted-own}
+use Rattle.slots.proofs.Sliding.{shifted-other, shifted-own}
+use Rattle.slots.proofs.Grids.{small-on}
 use Rattle.slots.proofs.Arrays.{coords-written, mark-is, numbers-are}
 use Rattle.slots.proofs.coordinates.move_slot.Statement.{statement}
 use Rattle.slots.proofs.coordinates.move_slot.Tie as tie
@@ -60,9 +59,9 @@ returns c = record {
       let x = getD S i free in
       let own : markOf x ≡ suc q = sym (mark-is h i) ∙ c .before .before .before .if1 .taken ∙ e in
       let was : take (9 * i + 9 - 9 * i) (drop (9 * i) coords) ≡ numbersOf x = part (9 * i) 9 coords ∙ numbers-are h i (omega arith) in
-      let on = passed-on-grid (moved by (numbersOf x)) (fit-shifted-own q by x own f) in
-      let new = c .before .move-numbers .ensures (ap (λ (l : List ℤ). allOn (moved by l)) was ∙ on) in
-      coords-written h i (shifted q by x) (9 * i + 9 - 9 * i) (omega arith) (omega arith) (new ∙ ap (moved by) was ∙ sym (shifted-own q by x own));
+      let is : moved by (take (9 * i + 9 - 9 * i) (drop (9 * i) coords)) ≡ numbersOf (shifted q by x) = ap (moved by) was ∙ sym (shifted-own q by x own) in
+      let new = c .before .move-numbers .ensures (ap allOn is ∙ small-on (numbersOf (shifted q by x)) (f .each)) in
+      coords-written h i (shifted q by x) (9 * i + 9 - 9 * i) (omega arith) (omega arith) (new ∙ is);
 }
 
 returns-2 : tie.Need-returns-2

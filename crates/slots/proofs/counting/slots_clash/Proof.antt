@@ -1,7 +1,8 @@
 -- `slots::counting::slots_clash` meets its contract: the marks decide, and where they leave it open the pair test does. Assumes nothing.
 use mathlib.Core.Path.{sym, _∙_}
 use borrow.Author.Needs.{needs}
-use Rattle.slots.proofs.Counts.{strikes-sym, strikes-free, strikes-same}
+use Rattle.slots.proofs.Clashing.{strikes-sym}
+use Rattle.slots.proofs.Counts.{strikes-free, strikes-same}
 use Rattle.slots.proofs.Arrays.{mark-is}
 use Rattle.slots.proofs.Verdicts.{strikes-tested}
 use Rattle.slots.proofs.counting.slots_clash.Statement.{statement}
