@@ -14,10 +14,11 @@ use Rattle.slots.specs.Searches.{lowest, leaves}
 use Rattle.slots.specs.Showing.{FitSlot, Fit}
 use Rattle.slots.proofs.Sliding.{part-fits}
 use Rattle.slots.proofs.Arrays.{set-fits}
+use Rattle.slots.proofs.Grids.{free-fits}
 use Rattle.keeping.proofs.Past.{long}
 use Rattle.plate.specs.Rules.{partWithin, partPresent, partStays, changeChecks}
 use Rattle.plate.specs.Histories.{History, slotsOf, Call, change, undo, made, takenBack, outcome, next, run}
-use Rattle.plate.proofs.Placing.{not-above, place-passes, placed-passed}
+use Rattle.plate.proofs.Placing.{not-above, place-passes, placed-ready}
 
 pub record Sound (h : History) : Type 0 where
   pub near : h .reach ≤ 32
@@ -37,8 +38,8 @@ shift-stays S q dx dy dz e =
 change-fits : (S : List Slot) (c : Change) → Fit S → changeChecks S c ≡ fine → Fit (apply S c)
 unfolding apply
 change-fits S (place s q numbers) fit e =
-    set-fits S s (held q numbers) fit (placed-passed s q numbers (place-passes S s q numbers e .0))
-change-fits S (lift s) fit e = set-fits S s free fit tt
+    set-fits S s (held q numbers) fit (placed-ready s q numbers (place-passes S s q numbers e .0))
+change-fits S (lift s) fit e = set-fits S s free fit free-fits
 change-fits S (shift q dx dy dz) fit e = part-fits S q dx dy dz fit (shift-stays S q dx dy dz e)
 
 -- ---- the calls
@@ -72,8 +73,8 @@ unfolding replay
 start-fits = record { long = long []; each = none 64 }
   where
     none : (n i : ℕ) → FitSlot (getD (replicate n free) i free)
-    none zero i = tt
-    none (suc n) zero = tt
+    none zero i = free-fits
+    none (suc n) zero = free-fits
     none (suc n) (suc i) = none n i
 
 pub sound : (calls : List Call) → Sound (run calls)

@@ -36,7 +36,7 @@ shows h p fit s = record {
   slots = record { fit = fit; coords-are = s .coords; parts-are = s .parts };
   journal = s .journal;
   reach = s .reach;
-  count = clashes-only (slotsOf h) (fit .each) (s .count);
+  count = clashes-only (slotsOf h) (s .count);
 }
 
 pub shown : (before : List Call) {p : Plate} → Stands (run before) p →
@@ -47,7 +47,7 @@ standing : (h : History) (p : Plate) → Shows (slotsOf h) (journalOf 32 (h .pas
 standing h p s = record {
   coords = s .slots .coords-are;
   parts = s .slots .parts-are;
-  count = subst (λ (n : ℕ). Clashes (slotsOf h) n) (sym (s .count)) (clashes-true (slotsOf h) (s .slots .fit .each));
+  count = subst (λ (n : ℕ). Clashes (slotsOf h) n) (sym (s .count)) (clashes-true (slotsOf h));
   reach = s .reach;
   journal = s .journal;
 }

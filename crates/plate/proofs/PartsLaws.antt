@@ -61,8 +61,7 @@ module _ (plate : Plate) (p q : ℕ) {told : Answer Bool} where
       parts-told e {v} strike t = record {
         kept = λ before s.
             let S = slotsOf (run before) in
-            let h = shown before s .slots in
-            let is : v ≡ marksStrike (suc p) (suc q) S = strike S h ∙ (λ i. marksStrike (add-one p i) (add-one q i) S) in
+            let is : v ≡ marksStrike (suc p) (suc q) S = strike S (shown before s .slots) ∙ (λ i. marksStrike (add-one p i) (add-one q i) S) in
             a-verdict S p q (rw (le-ltb 15 p a, le-ltb 15 q b, sym (present p s) ∙ d, sym (present q s) ∙ e))
-            (subst (λ (w : Bool). Says w (PartsClash S p q)) (sym is) (parts-says S p q (h .fit .each))) t;
+            (subst (λ (w : Bool). Says w (PartsClash S p q)) (sym is) (parts-says S p q)) t;
       }

@@ -8,7 +8,7 @@ use borrow.Author.Tests.{ltb-false}
 use lib.Dec.{ltb}
 use lib.IntN.{ℤ}
 use lib.ListN.{length}
-use Rattle.exact.specs.Grid.{Passed}
+use Rattle.exact.specs.Grid.{Ready}
 use Rattle.checks.specs.Answers.{refused, Check, fine, _then_}
 use Rattle.checks.specs.Rules.{rightLength, shapeChecks}
 use Rattle.checks.proofs.AnswerLaws.{never-fine, then-assoc, then-fine}
@@ -65,5 +65,5 @@ module _ (s q : ℕ) (l : List ℤ) (e : placing s q l ≡ fine) where
   pub nine-long : length l ≡ 9
   nine-long = fine-long 0 9 l (from-length .0)
 
-  pub placed-passed : Passed 3 3 l
-  placed-passed = passed 3 3 0 0 0 l nine-long (from-length .1)
+  pub placed-ready : Ready 9 l
+  placed-ready = passed 3 3 0 0 0 l nine-long (from-length .1) .ready

@@ -24,15 +24,15 @@ use Rattle.slots.proofs.Grids.{on-small}
 
 -- ---- one triangle
 -- Where its nine numbers move by the steps, its corners move by the vector.
-pub moved-triangle : (dx dy dz : ℤ) (numbers : List ℤ) → length numbers ≡ 9 →
+pub moved-triangle : (dx dy dz : ℤ) (numbers : List ℤ) →
     triangle (moved (thrice dx dy dz) numbers) ≡ movedAll (dx ∷ dy ∷ dz ∷ []) (triangle numbers)
-moved-triangle dx dy dz numbers long =
+moved-triangle dx dy dz numbers =
     λ i. (at 0 i ∷ at 1 i ∷ at 2 i ∷ []) ∷ (at 3 i ∷ at 4 i ∷ at 5 i ∷ []) ∷ (at 6 i ∷ at 7 i ∷ at 8 i ∷ []) ∷ []
   where
     at : (k : ℕ) → coord k (moved (thrice dx dy dz) numbers) ≡ coord k (thrice dx dy dz) +ℤ coord k numbers
     at k = coord-moved k (thrice dx dy dz) numbers
 
--- Nine numbers, moved, are nine again.
+-- Where its numbers stay on the grid, they are nine on the grid again.
 moved-ready : (dx dy dz : ℤ) (numbers : List ℤ) → length numbers ≡ 9 → allOn (moved (thrice dx dy dz) numbers) ≡ true →
     Ready 9 (moved (thrice dx dy dz) numbers)
 moved-ready dx dy dz numbers long on = record {

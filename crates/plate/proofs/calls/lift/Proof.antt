@@ -4,6 +4,7 @@ use borrow.Author.Needs.{needs}
 use Rattle.slots.specs.Slots.{free}
 use Rattle.slots.specs.Changes.{apply}
 use Rattle.slots.proofs.Arrays.{mark-is}
+use Rattle.slots.proofs.Grids.{free-fits}
 use Rattle.plate.specs.Histories.{run}
 use Rattle.plate.proofs.Outcomes.{shown, change-refused, change-made, lift-6, lift-9, lift-fine}
 use Rattle.plate.proofs.calls.lift.Statement.{statement}
@@ -44,7 +45,7 @@ returns-3 c = record {
       let e = c .before .before in
       change-made (run before) _ _ _
       (lift-fine _ _ (e .before .before .if1 .left) (λ none. e .if2 .left (mark-is (h .slots) _ ∙ none))) refl
-      (c .changed .ensures .is free h tt refl refl);
+      (c .changed .ensures .is free h free-fits refl refl);
 }
 
 pub lift-spec : {M : Type 1} → statement M

@@ -8,7 +8,7 @@ use native.Mathlib.Omega.{arith}
 use borrow.Author.Needs.{needs}
 use lib.IntN.{ℤ}
 use lib.ListN.{length}
-use Rattle.exact.specs.Grid.{Passed}
+use Rattle.exact.specs.Grid.{Ready}
 use Rattle.checks.specs.Answers.{fine}
 use Rattle.checks.specs.Told.{toldCheck}
 use Rattle.checks.proofs.AnswerLaws.{stopped}
@@ -16,7 +16,7 @@ use Rattle.slots.specs.Slots.{held}
 use Rattle.slots.specs.Changes.{apply}
 use Rattle.slots.proofs.Arrays.{mark-is}
 use Rattle.plate.specs.Histories.{run}
-use Rattle.plate.proofs.Placing.{placing, place-order, slot-within, part-within, nine-long, placed-passed}
+use Rattle.plate.proofs.Placing.{placing, place-order, slot-within, part-within, nine-long, placed-ready}
 use Rattle.plate.proofs.Outcomes.{shown, change-refused, change-made, place-8, place-fine}
 use Rattle.plate.proofs.calls.place.Statement.{statement}
 use Rattle.plate.proofs.calls.place.Tie as tie
@@ -53,8 +53,8 @@ module _ (c : tie.After-enum-told) where
   nine : length numbers ≡ 9
   nine = nine-long slot part numbers nothing-found
 
-  good-triangle : Passed 3 3 numbers
-  good-triangle = placed-passed slot part numbers nothing-found
+  good-triangle : Ready 9 numbers
+  good-triangle = placed-ready slot part numbers nothing-found
 
 element-copy-out-if1 : tie.Need-element-copy-out-if1
 element-copy-out-if1 c = omega (arith, good-slot c)
