@@ -10,7 +10,7 @@ use lib.IntN.{ℤ}
 use lib.ListN.{length}
 use Rattle.exact.specs.Grid.{Ready}
 use Rattle.checks.specs.Answers.{refused, Check, fine, _then_}
-use Rattle.checks.specs.Rules.{rightLength, shapeChecks}
+use Rattle.checks.specs.Rules.{rightLength, refuses-flat, shapeChecks}
 use Rattle.checks.proofs.AnswerLaws.{never-fine, then-assoc, then-fine}
 use Rattle.checks.proofs.CheckLaws.{fine-long}
 use Rattle.checks.proofs.Passing.{passed}
@@ -28,13 +28,13 @@ not-above m n number side at e = by-test (ltb n m) refl
 
 -- The checks that look at no slot: 6, 7, 3, 1 and 2.
 abbrev pub placing : (s q : ℕ) → List ℤ → Check
-placing s q l = slotWithin s then partWithin 0 q then rightLength 0 9 l then shapeChecks 3 3 0 0 0 l
+placing s q l = slotWithin s then partWithin 0 q then rightLength 0 9 l then shapeChecks refuses-flat 3 3 0 l
 
 -- They come first, and then 8.
 pub place-order : (S : List Slot) (s q : ℕ) (l : List ℤ) → changeChecks S (place s q l) ≡ (placing s q l then slotFree S s)
 unfolding changeChecks
 place-order S s q l =
-    let shape = shapeChecks 3 3 0 0 0 l in
+    let shape = shapeChecks refuses-flat 3 3 0 l in
     sym
     (then-assoc (slotWithin s) (partWithin 0 q then rightLength 0 9 l then shape) (slotFree S s)
     ∙ ap (λ (c : Check). slotWithin s then c) (then-assoc (partWithin 0 q) (rightLength 0 9 l then shape) (slotFree S s))
@@ -47,14 +47,14 @@ place-passes S s q l e = then-fine (placing s q l) (slotFree S s) (sym (place-or
 
 -- What passes the first checks.
 module _ (s q : ℕ) (l : List ℤ) (e : placing s q l ≡ fine) where
-  from-slot : (slotWithin s ≡ fine) × ((partWithin 0 q then rightLength 0 9 l then shapeChecks 3 3 0 0 0 l) ≡ fine)
-  from-slot = then-fine (slotWithin s) (partWithin 0 q then rightLength 0 9 l then shapeChecks 3 3 0 0 0 l) e
+  from-slot : (slotWithin s ≡ fine) × ((partWithin 0 q then rightLength 0 9 l then shapeChecks refuses-flat 3 3 0 l) ≡ fine)
+  from-slot = then-fine (slotWithin s) (partWithin 0 q then rightLength 0 9 l then shapeChecks refuses-flat 3 3 0 l) e
 
-  from-part : (partWithin 0 q ≡ fine) × ((rightLength 0 9 l then shapeChecks 3 3 0 0 0 l) ≡ fine)
-  from-part = then-fine (partWithin 0 q) (rightLength 0 9 l then shapeChecks 3 3 0 0 0 l) (from-slot .1)
+  from-part : (partWithin 0 q ≡ fine) × ((rightLength 0 9 l then shapeChecks refuses-flat 3 3 0 l) ≡ fine)
+  from-part = then-fine (partWithin 0 q) (rightLength 0 9 l then shapeChecks refuses-flat 3 3 0 l) (from-slot .1)
 
-  from-length : (rightLength 0 9 l ≡ fine) × (shapeChecks 3 3 0 0 0 l ≡ fine)
-  from-length = then-fine (rightLength 0 9 l) (shapeChecks 3 3 0 0 0 l) (from-part .1)
+  from-length : (rightLength 0 9 l ≡ fine) × (shapeChecks refuses-flat 3 3 0 l ≡ fine)
+  from-length = then-fine (rightLength 0 9 l) (shapeChecks refuses-flat 3 3 0 l) (from-part .1)
 
   pub slot-within : s ≤ 63
   slot-within = not-above s 63 6 0 s (from-slot .0)
@@ -66,4 +66,4 @@ module _ (s q : ℕ) (l : List ℤ) (e : placing s q l ≡ fine) where
   nine-long = fine-long 0 9 l (from-length .0)
 
   pub placed-ready : Ready 9 l
-  placed-ready = passed 3 3 0 0 0 l nine-long (from-length .1) .ready
+  placed-ready = passed refuses-flat 3 3 0 l nine-long (from-length .1) .ready

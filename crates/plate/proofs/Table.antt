@@ -15,10 +15,10 @@ use Rattle.shape.specs.Points.{moved}
 use Rattle.shape.specs.Flat.{Flat}
 use Rattle.checks.specs.Answers.{Answer, served, refused, Check, fine, _then_, numberOf, sideOf, placeOf}
 use Rattle.checks.specs.Grid.{lowestOff, allOn}
-use Rattle.checks.specs.Rules.{rightLength, notFlat, shapeChecks}
+use Rattle.checks.specs.Rules.{rightLength, notFlat, refuses-flat, shapeChecks}
 use Rattle.checks.specs.Told.{toldCheck}
 use Rattle.checks.proofs.GridLaws.{SomeOff, Lowest, all-on, none-off, one-off, lowest as lowest-off, lowest-some}
-use Rattle.checks.proofs.CheckLaws.{from-start, LengthCase, right, wrong, length-case, GridCase, all, not-all, grid-case, OnGrid, FlatCase, flat, not-flat, flat-case, long-fine, not-long-refused, on-fine, off-refused, not-flat-fine, flat-refused}
+use Rattle.checks.proofs.CheckLaws.{LengthCase, right, wrong, length-case, GridCase, all, not-all, grid-case, OnGrid, FlatCase, flat, not-flat, flat-case, long-fine, not-long-refused, on-fine, off-refused, not-flat-fine, flat-refused}
 use Rattle.slots.specs.Slots.{Slot, free, held, triangle, isOf}
 use Rattle.slots.specs.Changes.{Change, place, lift, shift, thrice}
 use Rattle.slots.specs.Searches.{some, lowest, leaves}
@@ -319,30 +319,29 @@ module _ (S : List Slot) (s q : ℕ) (numbers : List ℤ) where
   place-7 a b = rw (le-ltb 63 s a, lt-ltb 15 q b)
 
   module _ (a : s ≤ 63) (b : q ≤ 15) where
-    numbers-decide : placing s q numbers ≡ (rightLength 0 9 numbers then shapeChecks 3 3 0 0 0 numbers)
+    numbers-decide : placing s q numbers ≡ (rightLength 0 9 numbers then shapeChecks refuses-flat 3 3 0 numbers)
     numbers-decide = rw (le-ltb 63 s a, le-ltb 15 q b)
 
     place-3 : (length numbers ≡ 9 → ⊥) → placing s q numbers ≡ refused 3 0 (length numbers)
-    place-3 h = numbers-decide ∙ ap (λ (c : Check). c then shapeChecks 3 3 0 0 0 numbers) (not-long-refused 0 9 numbers h)
+    place-3 h = numbers-decide ∙ ap (λ (c : Check). c then shapeChecks refuses-flat 3 3 0 numbers) (not-long-refused 0 9 numbers h)
 
     module _ (long : length numbers ≡ 9) where
-      shape-decides : placing s q numbers ≡ shapeChecks 3 3 0 0 0 numbers
-      shape-decides = numbers-decide ∙ ap (λ (c : Check). c then shapeChecks 3 3 0 0 0 numbers) (long-fine 0 9 numbers long)
+      shape-decides : placing s q numbers ≡ shapeChecks refuses-flat 3 3 0 numbers
+      shape-decides = numbers-decide ∙ ap (λ (c : Check). c then shapeChecks refuses-flat 3 3 0 numbers) (long-fine 0 9 numbers long)
 
       place-1 : (k : ℕ) → Lowest numbers k → placing s q numbers ≡ refused 1 0 k
       place-1 k low =
-          let f = off-refused 0 0 k numbers low ∙ ap (refused 1 0) (sym (from-start k)) in
-          shape-decides ∙ ap (λ (c : Check). c then notFlat 3 0 0 (triangle numbers)) f
+          shape-decides ∙ ap (λ (c : Check). c then notFlat 3 0 (triangle numbers)) (off-refused 0 k numbers low)
 
       module _ (on : OnGrid numbers) where
-        flat-decides : placing s q numbers ≡ notFlat 3 0 0 (triangle numbers)
-        flat-decides = shape-decides ∙ ap (λ (c : Check). c then notFlat 3 0 0 (triangle numbers)) (on-fine 0 0 numbers on)
+        flat-decides : placing s q numbers ≡ notFlat 3 0 (triangle numbers)
+        flat-decides = shape-decides ∙ ap (λ (c : Check). c then notFlat 3 0 (triangle numbers)) (on-fine 0 numbers on)
 
         place-2 : Flat 3 (triangle numbers) → placing s q numbers ≡ refused 2 0 0
-        place-2 h = flat-decides ∙ flat-refused 3 0 0 (triangle numbers) h
+        place-2 h = flat-decides ∙ flat-refused refuses-flat 3 0 (triangle numbers) h
 
         placing-fine : (Flat 3 (triangle numbers) → ⊥) → placing s q numbers ≡ fine
-        placing-fine h = flat-decides ∙ not-flat-fine 3 0 0 (triangle numbers) h
+        placing-fine h = flat-decides ∙ not-flat-fine refuses-flat 3 0 (triangle numbers) h
 
 -- ---- the changes
 module _ (S : List Slot) where
@@ -380,7 +379,7 @@ module _ (S : List Slot) where
       by-slot a b long on h (inl e) = record { number = 0; side = 0; spot = 0; found = place-served s q numbers a b long on h e }
       by-slot a b long on h (inr f) = record { number = 8; side = 0; spot = s; found = place-filled s q numbers a b long on h f }
 
-      by-shape : s ≤ 63 → q ≤ 15 → length numbers ≡ 9 → GridCase 0 0 numbers → FlatCase 3 0 0 (triangle numbers) →
+      by-shape : s ≤ 63 → q ≤ 15 → length numbers ≡ 9 → GridCase 0 numbers → FlatCase refuses-flat 3 0 (triangle numbers) →
           SomeCase (ChangeCase S (place s q numbers))
       by-shape a b long (not-all low e) g =
           record { number = 1; side = 0; spot = lowestOff numbers; found = place-off s q numbers (lowestOff numbers) a b long low }
@@ -391,7 +390,7 @@ module _ (S : List Slot) where
       by-numbers (inr a) b l = record { number = 6; side = 0; spot = s; found = place-slot s q numbers a }
       by-numbers (inl a) (inr b) l = record { number = 7; side = 0; spot = q; found = place-part s q numbers a b }
       by-numbers (inl a) (inl b) (wrong h e) = record { number = 3; side = 0; spot = length numbers; found = place-length s q numbers a b h }
-      by-numbers (inl a) (inl b) (right long e) = by-shape a b long (grid-case 0 0 numbers) (flat-case 3 0 0 (triangle numbers))
+      by-numbers (inl a) (inl b) (right long e) = by-shape a b long (grid-case 0 numbers) (flat-case refuses-flat 3 0 (triangle numbers))
 
   some-lift : (s : ℕ) → SomeCase (ChangeCase S (lift s))
   some-lift s = decide (at-most-or-above s 63) (empty-or-filled S s)

@@ -6,7 +6,7 @@ use lib.Dec.{ltb}
 use lib.IntN.{ℤ}
 use lib.ListN.{length, getD}
 use Rattle.checks.specs.Answers.{refused, Check, fine, _then_}
-use Rattle.checks.specs.Rules.{rightLength, shapeChecks}
+use Rattle.checks.specs.Rules.{rightLength, refuses-flat, shapeChecks}
 use Rattle.slots.specs.Slots.{Slot, free, isFree, isOf}
 use Rattle.slots.specs.Changes.{Change, place, lift, shift, thrice}
 use Rattle.slots.specs.Searches.{some, lowest, leaves}
@@ -40,7 +40,7 @@ partStays S q by = cond (ltb (lowest (leaves q by) S) (length S)) (refused 11 0 
 -- Place: 6, 7, 3, 1, 2, 8. Lift: 6, 9. Shift: 7, 10, 11.
 unfoldable pub changeChecks : List Slot → Change → Check
 changeChecks S (place s q numbers) =
-    slotWithin s then partWithin 0 q then rightLength 0 9 numbers then shapeChecks 3 3 0 0 0 numbers then slotFree S s
+    slotWithin s then partWithin 0 q then rightLength 0 9 numbers then shapeChecks refuses-flat 3 3 0 numbers then slotFree S s
 changeChecks S (lift s) = slotWithin s then slotFilled S s
 changeChecks S (shift q dx dy dz) = partWithin 0 q then partPresent 0 S q then partStays S q (thrice dx dy dz)
 

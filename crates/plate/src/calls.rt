@@ -15,7 +15,7 @@ use slots::lowest_leaving;
 ghost use mathlib.Core.Path.{_≡_};
 ghost use mathlib.Core.List.{[]};
 ghost use Rattle.checks.specs.Answers.{refused, _then_};
-ghost use Rattle.checks.specs.Rules.{rightLength, shapeChecks};
+ghost use Rattle.checks.specs.Rules.{rightLength, refuses-flat, shapeChecks};
 ghost use Rattle.checks.specs.Told.{toldCheck};
 ghost use Rattle.slots.specs.Changes.{place, lift, shift};
 ghost use Rattle.plate.specs.Rules.{slotWithin, partWithin};
@@ -55,17 +55,17 @@ fn no(number: u32, place: usize) -> Checked
 
 // Refusals 3, 1 and 2 of a triangle, in this order.
 fn triangle_checked(triangle: &[i32]) -> Checked
-    ensures { λ r. ⌜ toldCheck r ≡ rightLength 0 9 (now (triangle .entry)) then shapeChecks 3 3 0 0 0 (now (triangle .entry)) ⌝ }
+    ensures { λ r. ⌜ toldCheck r ≡ rightLength 0 9 (now (triangle .entry)) then shapeChecks refuses-flat 3 3 0 (now (triangle .entry)) ⌝ }
 {
     match length_checked(0, 9, triangle) {
         Checked::Refused(why) => Checked::Refused(why),
-        Checked::Fine => shape_checked(Kind::SpaceTriangle, 0, 0, 0, triangle),
+        Checked::Fine => shape_checked(Kind::SpaceTriangle, 0, triangle),
     }
 }
 
 // Refusals 6, 7, 3, 1 and 2 of a place, in this order.
 fn placing_checked(slot: usize, part: usize, triangle: &[i32]) -> Checked
-    ensures { λ r. ⌜ toldCheck r ≡ slotWithin slot then partWithin 0 part then rightLength 0 9 (now (triangle .entry)) then shapeChecks 3 3 0 0 0 (now (triangle .entry)) ⌝ }
+    ensures { λ r. ⌜ toldCheck r ≡ slotWithin slot then partWithin 0 part then rightLength 0 9 (now (triangle .entry)) then shapeChecks refuses-flat 3 3 0 (now (triangle .entry)) ⌝ }
 {
     if 63 < slot {
         return no(6, slot);

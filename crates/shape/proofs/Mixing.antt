@@ -1,18 +1,21 @@
--- A shape whose corners are all points of another is a part of it: what meets the one meets the other. Over any number of coordinates and of
--- corners. Assumes nothing.
+-- A shape whose corners are all points of another is a part of it: what meets the one meets the other. And a segment with a point of its own is
+-- the two segments on either side of that point. Over any number of coordinates. Assumes nothing.
 use mathlib.Core.Path.{_≡_, refl, sym, _∙_, ap, ap₂}
 use mathlib.Core.List.{List, [], _∷_, map}
-use Prim.Native.Nat.{ℕ, suc, _+_, _*_, _≤_, _<_}
-use native.Mathlib.Nat.{mul-le-mul}
+use mathlib.Core.Logic.{_⊎_, inl, inr}
+use Prim.Native.Nat.{ℕ, zero, suc, _+_, _-_, _*_, _≤_, _<_}
+use native.Mathlib.Nat.{mul-le-mul, zero-mul}
 use native.Mathlib.Omega.{arith}
 use lib.ListN.{length, length-map}
 use lib.IntN.{ℤ, pos, natAbs, _+ℤ_, _*ℤ_, *ℤ-zero, zero-*ℤ}
-use Rattle.algebra.proofs.Expression.{lit, _⊞_, _⊠_}
-use Rattle.algebra.proofs.Solver.{_≗_, solve}
+use Rattle.algebra.proofs.Expression.{var, lit, _⊞_, _⊟_, _⊠_, neg}
+use Rattle.algebra.proofs.Solver.{ring, _≗_, solve}
+use Rattle.algebra.proofs.Certificate.{Rel, _≐_, eqn, num, _⊕_, prove≡}
 use Rattle.shape.specs.Points.{Point, Shape, coord}
 use Rattle.shape.specs.Sharing.{total, weigh, PointOf, Share}
 use Rattle.shape.proofs.Weights.{Every, weigh-every, weigh-const}
 use Rattle.shape.proofs.Trading.{scaled, coord-scaled}
+use Rattle.shape.proofs.FlatLaws.{compared}
 
 -- A mixture of the corners of R: weights with the sum s whose weighted sums are x. Unlike a point it may have the sum 0.
 record Mixture (n : ℕ) (R : Shape) (s : ℤ) (x : ℕ → ℤ) : Type 0 where
@@ -160,3 +163,138 @@ absorbed {n} {P} {Q} {R} h meet =
           });
       of-second = point-of (meet .x) (r .often) (r .some) (q .some) (times (r .often) (mixture-of q));
     }
+
+-- ---- a segment in two: where b is a point of the segment c a, what meets it meets a b or b c
+-- A mixture of two corners, by its two weights.
+record TwoWeights (n : ℕ) (c a : Point) (s : ℤ) (x : ℕ → ℤ) : Type 0 where
+  of-c : ℕ
+  of-a : ℕ
+  sum : pos of-c +ℤ pos of-a ≡ s
+  mixed : (i : ℕ) → i < n → pos of-c *ℤ coord i c +ℤ pos of-a *ℤ coord i a ≡ x i
+
+two-weights : {n : ℕ} {c a : Point} {s : ℤ} {x : ℕ → ℤ} → Mixture n (c ∷ a ∷ []) s x → TwoWeights n c a s x
+two-weights {n} {c} {a} {s} {x} m = by-list (m .ws) (m .each) (m .sum) (m .mixed)
+  where
+    by-list : (ws : List ℕ) → length ws ≡ 2 → pos (total ws) ≡ s → ((i : ℕ) → i < n → weigh (coord i) ws (c ∷ a ∷ []) ≡ x i) → TwoWeights n c a s x
+    by-list [] e sum mixed = absurd (omega (arith, e))
+    by-list (u ∷ []) e sum mixed = absurd (omega (arith, e))
+    by-list (u ∷ v ∷ w ∷ ws) e sum mixed = absurd (omega (arith, e))
+    by-list (u ∷ v ∷ []) e sum mixed = record {
+      of-c = u;
+      of-a = v;
+      sum = solve 2 (λ u v. u ⊞ v ≗ u ⊞ (v ⊞ lit (pos 0))) (tt, refl) (pos u) (pos v) ∙ sum;
+      mixed = λ i l.
+          solve 4 (λ u c v a. u ⊠ c ⊞ v ⊠ a ≗ u ⊠ c ⊞ (v ⊠ a ⊞ lit (pos 0))) (tt, refl) (pos u) (coord i c) (pos v) (coord i a) ∙ mixed i l;
+    }
+
+-- And back.
+from-two : {n : ℕ} {d e : Point} {s : ℤ} {x : ℕ → ℤ} (u v : ℕ) → pos u +ℤ pos v ≡ s →
+    ((i : ℕ) → i < n → pos u *ℤ coord i d +ℤ pos v *ℤ coord i e ≡ x i) → Mixture n (d ∷ e ∷ []) s x
+from-two {d} {e} u v sum mixed = record {
+  ws = u ∷ v ∷ [];
+  each = refl;
+  sum = solve 2 (λ u v. u ⊞ (v ⊞ lit (pos 0)) ≗ u ⊞ v) (tt, refl) (pos u) (pos v) ∙ sum;
+  mixed = λ i l.
+      solve 4 (λ u c v a. u ⊠ c ⊞ (v ⊠ a ⊞ lit (pos 0)) ≗ u ⊠ c ⊞ v ⊠ a) (tt, refl) (pos u) (coord i d) (pos v) (coord i e) ∙ mixed i l;
+}
+
+-- The larger of two natural numbers is the smaller and the rest.
+rest : (x y : ℕ) → y ≤ x → pos (x - y) +ℤ pos y ≡ pos x
+rest x y h = ap pos (omega arith)
+
+-- A product that is above something has a first factor.
+some-factor : (t w x : ℕ) → x < t * w → 1 ≤ t
+some-factor zero w x h = absurd (omega (arith, zero-mul w, h))
+some-factor (suc t) w x h = omega arith
+
+module _ {n : ℕ} {Q : Shape} (a b c : Point) (between : Share n (b ∷ []) (c ∷ a ∷ [])) (meet : Share n (c ∷ a ∷ []) Q) where
+  -- m b is p c and q a, and x, with the sum s, is u c and v a.
+  abbrev m : ℕ
+  m = between .s
+
+  of-b : TwoWeights n c a (pos m) (λ i. pos m *ℤ coord i b)
+  of-b = two-weights (corner-mixture between)
+
+  of-x : TwoWeights n c a (pos (meet .s)) (λ i. coord i (meet .x))
+  of-x = two-weights (mixture-of (meet .of-first))
+
+  abbrev p : ℕ
+  p = of-b .of-c
+
+  abbrev q : ℕ
+  q = of-b .of-a
+
+  abbrev u : ℕ
+  u = of-x .of-c
+
+  abbrev v : ℕ
+  v = of-x .of-a
+
+  -- A mixture of another shape that is x taken t times: it meets Q too.
+  meets-there : {R : Shape} (t : ℕ) → 1 ≤ t → Mixture n R (pos t *ℤ pos (meet .s)) (λ i. pos t *ℤ coord i (meet .x)) → Share n R Q
+  meets-there t some-t mixture = record {
+    s = t * meet .s;
+    x = scaled (pos t) (meet .x);
+    of-first = point-of (meet .x) t some-t (meet .of-first .some) mixture;
+    of-second = point-of (meet .x) t some-t (meet .of-first .some) (times t (mixture-of (meet .of-second)));
+  }
+
+  -- The numbers u v p q m s, coordinate i of b, c, a and x, and a number k. What is known: the two sums, the two mixtures, and one relation more.
+  abbrev numbers : ℕ → ℕ → List ℤ
+  numbers i k =
+      pos u ∷ pos v ∷ pos p ∷ pos q ∷ pos m ∷ pos (meet .s) ∷ coord i b ∷ coord i c ∷ coord i a ∷ coord i (meet .x) ∷ pos k ∷ []
+
+  abbrev known : Rel → List Rel
+  known more = (var 0 ⊞ var 1 ≐ var 5) ∷ (var 2 ⊞ var 3 ≐ var 4) ∷ more ∷ []
+
+  abbrev knownAt : Rel → List Rel
+  knownAt more =
+      (var 0 ⊠ var 7 ⊞ var 1 ⊠ var 8 ≐ var 9) ∷ (var 2 ⊠ var 7 ⊞ var 3 ⊠ var 8 ≐ var 4 ⊠ var 6) ∷ known more
+
+  -- x is nearer to c than b is: b taken v m times and c taken q u - p v times are x taken q times.
+  on-bc : p * v < q * u → Share n (b ∷ c ∷ []) Q
+  on-bc h =
+      let k = q * u - p * v in
+      let more : pos k +ℤ pos p *ℤ pos v ≡ pos q *ℤ pos u = rest (q * u) (p * v) (omega (arith, h)) in
+      let moreE = var 10 ⊞ var 2 ⊠ var 1 ≐ var 3 ⊠ var 0 in
+      meets-there q (some-factor q u (p * v) h)
+      (from-two (v * m) k
+      (prove≡ (numbers 0 k) (known moreE) (var 1 ⊠ var 4 ⊞ var 10) (var 3 ⊠ var 5) (num 1)
+      (eqn 0 (var 3) ⊕ eqn 1 (neg (var 1)) ⊕ eqn 2 (lit (pos 1))) tt tt tt refl (of-x .sum) (of-b .sum) more)
+      (λ i l.
+      prove≡ (numbers i k) (knownAt moreE) (var 1 ⊠ var 4 ⊠ var 6 ⊞ var 10 ⊠ var 7) (var 3 ⊠ var 9) (num 1)
+      (eqn 0 (var 3) ⊕ eqn 1 (neg (var 1)) ⊕ eqn 4 (var 7)) tt tt tt refl (of-x .mixed i l) (of-b .mixed i l) (of-x .sum) (of-b .sum) more))
+
+  -- x is farther: a taken p v - q u times and b taken u m times are x taken p times.
+  on-ab : q * u < p * v → Share n (a ∷ b ∷ []) Q
+  on-ab h =
+      let k = p * v - q * u in
+      let more : pos k +ℤ pos q *ℤ pos u ≡ pos p *ℤ pos v = rest (p * v) (q * u) (omega (arith, h)) in
+      let moreE = var 10 ⊞ var 3 ⊠ var 0 ≐ var 2 ⊠ var 1 in
+      meets-there p (some-factor p v (q * u) h)
+      (from-two k (u * m)
+      (prove≡ (numbers 0 k) (known moreE) (var 10 ⊞ var 0 ⊠ var 4) (var 2 ⊠ var 5) (num 1)
+      (eqn 0 (var 2) ⊕ eqn 1 (neg (var 0)) ⊕ eqn 2 (lit (pos 1))) tt tt tt refl (of-x .sum) (of-b .sum) more)
+      (λ i l.
+      prove≡ (numbers i k) (knownAt moreE) (var 10 ⊠ var 8 ⊞ var 0 ⊠ var 4 ⊠ var 6) (var 2 ⊠ var 9) (num 1)
+      (eqn 0 (var 2) ⊕ eqn 1 (neg (var 0)) ⊕ eqn 4 (var 8)) tt tt tt refl (of-x .mixed i l) (of-b .mixed i l) (of-x .sum) (of-b .sum) more))
+
+  -- x is b: taken s m times it is x taken m times.
+  at-b : q * u ≡ p * v → Share n (b ∷ c ∷ []) Q
+  at-b e =
+      let moreE = var 3 ⊠ var 0 ≐ var 2 ⊠ var 1 in
+      meets-there m (between .of-first .some)
+      (from-two (meet .s * m) 0
+      (ring (numbers 0 0) (var 5 ⊠ var 4 ⊞ lit (pos 0)) (var 4 ⊠ var 5) tt refl)
+      (λ i l.
+      prove≡ (numbers i 0) (knownAt moreE) (var 5 ⊠ var 4 ⊠ var 6 ⊞ lit (pos 0) ⊠ var 7) (var 4 ⊠ var 9) (num 1)
+      (eqn 0 (var 4) ⊕ eqn 1 (neg (var 5)) ⊕ eqn 2 (neg (var 2 ⊠ var 7 ⊞ var 3 ⊠ var 8)) ⊕ eqn 3 (var 0 ⊠ var 7 ⊞ var 1 ⊠ var 8) ⊕ eqn 4 (var 8 ⊟ var 7))
+      tt tt tt refl (of-x .mixed i l) (of-b .mixed i l) (of-x .sum) (of-b .sum) (ap pos e)))
+
+  pub in-two : Share n (a ∷ b ∷ []) Q ⊎ Share n (b ∷ c ∷ []) Q
+  in-two = by-order (compared (q * u) (p * v))
+    where
+      by-order : (q * u < p * v) ⊎ ((q * u ≡ p * v) ⊎ (p * v < q * u)) → Share n (a ∷ b ∷ []) Q ⊎ Share n (b ∷ c ∷ []) Q
+      by-order (inl h) = inl (on-ab h)
+      by-order (inr (inl e)) = inr (at-b e)
+      by-order (inr (inr h)) = inr (on-bc h)

@@ -1,8 +1,7 @@
 -- `plate::calls::triangle_checked` meets its contract: 3 comes first, and the numbers are looked at where there are nine. Assumes nothing.
 use mathlib.Core.Path.{sym, ap, _∙_}
-use native.Mathlib.Omega.{arith}
 use borrow.Author.Needs.{needs}
-use Rattle.checks.specs.Rules.{shapeChecks}
+use Rattle.checks.specs.Rules.{refuses-flat, shapeChecks}
 use Rattle.checks.specs.Told.{toldCheck}
 use Rattle.checks.proofs.AnswerLaws.{stopped, passed-on}
 use Rattle.checks.proofs.CheckLaws.{fine-long}
@@ -21,8 +20,7 @@ enum-told c = search needs
 shape-checked-requires : tie.Need-shape-checked-requires
 shape-checked-requires c κs =
     let p = c .before .before in
-    let long = fine-long 0 9 (p .before .args .triangle .now) (sym (p .length-checked .ensures) ∙ ap toldCheck (c .enum-told .given .1)) in
-    (long, omega (arith, long))
+    fine-long 0 9 (p .before .args .triangle .now) (sym (p .length-checked .ensures) ∙ ap toldCheck (c .enum-told .given .1))
 
 returns : tie.Need-returns
 returns c =
@@ -32,7 +30,7 @@ returns c =
 returns-2 : tie.Need-returns-2
 returns-2 c =
     let p = c .before .before .before in
-    let shape = shapeChecks 3 3 0 0 0 (p .before .args .triangle .now) in
+    let shape = shapeChecks refuses-flat 3 3 0 (p .before .args .triangle .now) in
     passed-on shape (p .length-checked .ensures) (c .before .enum-told .given .1) (c .shape-checked .ensures)
 
 pub triangle-checked-spec : {M : Type 1} → statement M
