@@ -37,9 +37,6 @@ pub *ℤ-distl : (a b c : ℤ) → a *ℤ (b +ℤ c) ≡ a *ℤ b +ℤ a *ℤ c
 pub +ℤ-cancelr : (a b c : ℤ) → a +ℤ c ≡ b +ℤ c → a ≡ b
 +ℤ-cancelr a b c e = sym (+ℤ-negℤ-cancel a c) ∙ ap (λ x. x -ℤ c) e ∙ +ℤ-negℤ-cancel b c
 
-pub +ℤ-cancell : (a b c : ℤ) → c +ℤ a ≡ c +ℤ b → a ≡ b
-+ℤ-cancell a b c e = +ℤ-cancelr a b c (+ℤ-comm a c ∙ e ∙ +ℤ-comm c b)
-
 -- a negated factor negates the product
 pub neg-*ℤ : (a b : ℤ) → negℤ a *ℤ b ≡ negℤ (a *ℤ b)
 neg-*ℤ a b = +ℤ-cancelr (negℤ a *ℤ b) (negℤ (a *ℤ b)) (a *ℤ b) (sym (*ℤ-distr (negℤ a) a b) ∙ ap (λ x. x *ℤ b) (+ℤ-invl a) ∙ zero-*ℤ b ∙ sym (+ℤ-invl (a *ℤ b)))

@@ -100,8 +100,49 @@ fn pairs() {
           -524288 -524288 -524288 524288 524288 524288 524288 -524288 0; 0 0 0 -524288 524288 524288 -524288 524288 -524288\n\
           no numbers; no numbers: ;\n\
           off the grid; 6 numbers: 524289 0 0 4 0 0 0 4 0; 0 0 0 4 0 0\n\
-          flat; off the grid: 0 0 0 4 0 0 8 0 0; 0 0 0 4 0 0 0 4 524289\n\
-          A; flat: 0 0 0 4 0 0 0 4 0; 1 2 3 1 2 3 0 4 0\n",
+          flat and off the grid; off the grid: 0 0 0 4 0 0 524289 0 0; 0 0 0 4 0 0 0 4 524289\n\
+          flat; off the grid: 0 0 0 4 0 0 8 0 0; 0 0 0 4 0 0 0 4 524289\n",
+    );
+}
+
+// Flat triangles in space against A: points, that is, three equal corners, and wires.
+fn wires_on_a_triangle() {
+    rows(
+        Call::Pair,
+        b"Points and wires against A\n\
+          a point on a corner: 4 0 0 4 0 0 4 0 0; 0 0 0 4 0 0 0 4 0\n\
+          a point on an edge: 2 2 0 2 2 0 2 2 0; 0 0 0 4 0 0 0 4 0\n\
+          a point inside: 1 1 0 1 1 0 1 1 0; 0 0 0 4 0 0 0 4 0\n\
+          a point one step past an edge: 3 2 0 3 2 0 3 2 0; 0 0 0 4 0 0 0 4 0\n\
+          a point one step off the plane: 1 1 1 1 1 1 1 1 1; 0 0 0 4 0 0 0 4 0\n\
+          A; a needle through it: 0 0 0 4 0 0 0 4 0; 1 1 -1 1 1 2 1 1 1\n\
+          A; a needle past it: 0 0 0 4 0 0 0 4 0; 3 2 -1 3 2 2 3 2 1\n\
+          A; a needle that ends above it: 0 0 0 4 0 0 0 4 0; 1 1 1 1 1 3 1 1 2\n\
+          A; a wire in its plane, across: 0 0 0 4 0 0 0 4 0; -1 1 0 1 1 0 5 1 0\n\
+          A; a wire in its plane, past it: 0 0 0 4 0 0 0 4 0; 5 0 0 0 5 0 3 2 0\n\
+          A; a wire of two equal corners, to a corner: 0 0 0 4 0 0 0 4 0; 1 2 3 1 2 3 0 4 0\n",
+    );
+}
+
+// And against each other.
+fn wires_and_points() {
+    rows(
+        Call::Pair,
+        b"Points and wires against each other\n\
+          equal points: 5 -7 3 5 -7 3 5 -7 3; 5 -7 3 5 -7 3 5 -7 3\n\
+          points one step apart: 5 -7 3 5 -7 3 5 -7 3; 5 -7 4 5 -7 4 5 -7 4\n\
+          a point on a wire: 2 2 2 2 2 2 2 2 2; 0 0 0 4 4 4 1 1 1\n\
+          a point one step beside a wire: 2 2 3 2 2 3 2 2 3; 0 0 0 4 4 4 1 1 1\n\
+          wires on one line, end to end: 0 0 0 1 1 1 2 2 2; 4 4 4 2 2 2 3 3 3\n\
+          overlapping: 0 0 0 1 1 1 2 2 2; 1 1 1 2 2 2 3 3 3\n\
+          one step apart: 0 0 0 1 1 1 2 2 2; 3 3 3 4 4 4 5 5 5\n\
+          upright, end to end: 1 1 0 1 1 2 1 1 1; 1 1 4 1 1 2 1 1 3\n\
+          upright, one step apart: 1 1 0 1 1 2 1 1 1; 1 1 4 1 1 3 1 1 3\n\
+          wires that cross: 0 0 0 4 4 4 2 2 2; 4 0 2 0 4 2 1 3 2\n\
+          one step over each other: 0 0 0 4 4 4 2 2 2; 4 0 3 0 4 3 1 3 3\n\
+          in one plane, one past the other's end: 0 0 0 4 4 4 2 2 2; 6 4 5 4 6 5 5 5 5\n\
+          from end to end of the grid, across: \
+          -524288 -524288 -524288 524288 524288 524288 0 0 0; -524288 524288 524288 524288 -524288 -524288 524288 -524288 -524288\n",
     );
 }
 
@@ -115,6 +156,10 @@ fn segments() {
           ending on an edge of A: 2 2 5 2 2 0; 0 0 0 4 0 0 0 4 0\n\
           in the plane of A, past it: 5 0 0 0 5 0; 0 0 0 4 0 0 0 4 0\n\
           equal ends; A: 1 1 0 1 1 0; 0 0 0 4 0 0 0 4 0\n\
+          equal ends, one step off; A: 1 1 1 1 1 1; 0 0 0 4 0 0 0 4 0\n\
+          through a wire: 1 1 -1 1 1 1; 0 0 0 2 2 0 1 1 0\n\
+          over a wire: 1 1 1 1 1 3; 0 0 0 2 2 0 1 1 0\n\
+          equal ends; the same point: 3 2 1 3 2 1; 3 2 1 3 2 1 3 2 1\n\
           A; a segment: 0 0 0 4 0 0 0 4 0; 1 1 -1 1 1 1\n\
           equal ends off the grid; A: 0 0 524289 0 0 524289; 0 0 0 4 0 0 0 4 0\n",
     );
@@ -131,15 +176,16 @@ fn lists() {
           one list empty: 0 0 0 4 0 0 0 4 0 1 1 1 2 1 1 1 2 1; ; 0\n\
           a pair, exactly full: 0 0 0 4 0 0 0 4 0; 0 0 0 4 0 0 0 4 0; 5\n\
           a pair, one number short: 0 0 0 4 0 0 0 4 0; 0 0 0 4 0 0 0 4 0; 6\n\
+          A, then a wire; a point of both, then a wire that meets neither: \
+          0 0 0 4 0 0 0 4 0 0 0 0 2 2 2 1 1 1; 0 0 0 0 0 0 0 0 0 1 1 2 3 3 4 2 2 3; 1\n\
           Refusals of the listing\n\
           8 numbers; 10 numbers, start 8: 0 0 0 4 0 0 0 4; 0 0 0 4 0 0 0 4 0 1; 8\n\
           8 numbers; 10 numbers: 0 0 0 4 0 0 0 4; 0 0 0 4 0 0 0 4 0 1; 0\n\
           off the grid; 10 numbers: 0 0 0 524289 0 0 0 4 0; 0 0 0 4 0 0 0 4 0 1; 0\n\
           flat, then off the grid: 0 0 0 4 0 0 8 0 0 0 0 0 524289 0 0 0 4 0; 0 0 0 4 0 0 0 4 0; 0\n\
           fine, then positions 14 and 16 off the grid: 0 0 0 4 0 0 0 4 0 1 1 1 2 1 524289 1 524289 1; 0 0 0 4 0 0 0 4 0; 0\n\
-          fine; fine, then flat: 0 0 0 4 0 0 0 4 0; 0 0 0 4 0 0 0 4 0 1 1 1 2 2 2 3 3 3; 0\n\
           flat; off the grid: 0 0 0 4 0 0 8 0 0; 0 0 0 4 0 0 0 4 524289; 0\n\
-          too little room; fine, then flat: 0 0 0 4 0 0 0 4 0 1 1 1 2 1 1 1 2 1; 1 1 -1 1 1 1 5 5 1 4 0 0 5 0 1 6 0 2; 3\n",
+          too little room; off the grid: 0 0 0 4 0 0 0 4 0; 0 0 0 4 0 0 0 4 524289; 7\n",
     );
 }
 
@@ -271,6 +317,8 @@ fn main() {
     sides();
     flats();
     pairs();
+    wires_on_a_triangle();
+    wires_and_points();
     segments();
     lists();
     changes();

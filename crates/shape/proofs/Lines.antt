@@ -1,6 +1,5 @@
 -- What specs/Flat.antt says by turns is what document 01 says in words: a triangle is flat exactly where one of its corners is
--- a point of the segment between the other two. And: it is flat in any order of its corners, and wherever it is moved.
--- Assumes nothing.
+-- a point of the segment between the other two. And: it is flat in any order of its corners. Assumes nothing.
 use mathlib.Core.Path.{_≡_, refl, sym, _∙_, ap}
 use mathlib.Core.List.{List, [], _∷_}
 use mathlib.Core.Logic.{_⊎_, inl, inr, _↔_}
@@ -9,19 +8,18 @@ use native.Mathlib.Omega.{arith}
 use lib.ListN.{length}
 use lib.IntN.{ℤ, pos, negsuc, negℤ, _+ℤ_, _-ℤ_, _*ℤ_}
 use lib.Signed.{_≤ℤ_, _<ℤ_}
-use Rattle.algebra.proofs.Ring.{+ℤ-cancell}
 use Rattle.algebra.proofs.Order.{sub-nonneg, sub-pos, weak, 0≤-pos, 0<-pos, 0<-addl, lt-or-ge, le-antisym, le-of-lt, ≤ℤ-<ℤ-trans}
 use Rattle.algebra.proofs.Expression.{Ex, var, lit, _⊞_, _⊟_, _⊠_, neg}
 use Rattle.algebra.proofs.Solver.{_≗_, solve}
 use Rattle.algebra.proofs.Certificate.{Rel, _≺_, _≐_, hyp, eqn, num, _⊕_, prove≡}
-use Rattle.shape.specs.Points.{Point, Shape, coord, moved, movedAll}
+use Rattle.shape.specs.Points.{Point, coord}
 use Rattle.shape.specs.Signs.{turn, turnIn}
 use Rattle.shape.specs.Sharing.{total, weigh, Share}
 use Rattle.shape.specs.Flat.{Equal, OnLine, Flat}
-use Rattle.shape.proofs.Trading.{coord-moved, share-among}
+use Rattle.shape.proofs.Trading.{share-among}
 use Rattle.shape.proofs.Meeting.{CommonWeights, weights-of-share, meet}
 use Rattle.shape.proofs.Symbols.{values, O, point, turnE}
-use Rattle.shape.proofs.SignLaws.{neighbours-trade, cycle, bracket-moved}
+use Rattle.shape.proofs.SignLaws.{neighbours-trade, cycle}
 use Rattle.shape.proofs.Seeking.{Found, seek}
 
 -- A point as it is seen in two of its coordinates: the turn that three points show there is a turn in the plane.
@@ -37,30 +35,6 @@ pub on-line-cycle : {n : ℕ} (a b c : Point) → OnLine n a b c → OnLine n b 
 on-line-cycle a b c h i j li lj =
     cycle (seenIn i j b) (seenIn i j c ∷ seenIn i j a ∷ [])
     ∙ ap (λ (z : ℤ). negℤ (negℤ z)) (cycle (seenIn i j c) (seenIn i j a ∷ seenIn i j b ∷ []) ∙ ap (λ (z : ℤ). negℤ (negℤ z)) (h i j li lj))
-
--- ---- wherever all are moved
-seen-moved : (i j : ℕ) (d a : Point) → seenIn i j (moved d a) ≡ moved (seenIn i j d) (seenIn i j a)
-seen-moved i j d a = λ k. coord-moved i d a k ∷ coord-moved j d a k ∷ []
-
-pub turnIn-moved : (i j : ℕ) (d a b c : Point) → turnIn i j (moved d a) (moved d b) (moved d c) ≡ turnIn i j a b c
-turnIn-moved i j d a b c =
-    (λ k. turn (seen-moved i j d a k) (seen-moved i j d b k) (seen-moved i j d c k))
-    ∙ bracket-moved (seenIn i j d) (seenIn i j a ∷ seenIn i j b ∷ seenIn i j c ∷ [])
-
--- Moving a shape leaves it flat, or not flat.
-pub flat-moved : (n : ℕ) (d : Point) (P : Shape) → Flat n P ↔ Flat n (movedAll d P)
-flat-moved n d [] = (λ h. h, λ h. h)
-flat-moved n d (a ∷ []) = (λ h. h, λ h. h)
-flat-moved n d (a ∷ b ∷ []) = (there, back)
-  where
-    there : Equal n a b → Equal n (moved d a) (moved d b)
-    there h i l = coord-moved i d a ∙ ap (λ (z : ℤ). coord i d +ℤ z) (h i l) ∙ sym (coord-moved i d b)
-
-    back : Equal n (moved d a) (moved d b) → Equal n a b
-    back h i l = +ℤ-cancell (coord i a) (coord i b) (coord i d) (sym (coord-moved i d a) ∙ h i l ∙ coord-moved i d b)
-flat-moved n d (a ∷ b ∷ c ∷ []) =
-    (λ h i j li lj. turnIn-moved i j d a b c ∙ h i j li lj, λ h i j li lj. sym (turnIn-moved i j d a b c) ∙ h i j li lj)
-flat-moved n d (a ∷ b ∷ c ∷ e ∷ more) = (λ h. h, λ h. h)
 
 -- ---- one of the three between the other two
 pub data OneBetween (n : ℕ) (a b c : Point) : Type 0 where

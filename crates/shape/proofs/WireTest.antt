@@ -17,13 +17,13 @@ use Rattle.shape.specs.Signs.{turnIn, side, sign, digit}
 use Rattle.shape.specs.Sharing.{Share}
 use Rattle.shape.specs.Flat.{Flat}
 use Rattle.shape.specs.Verdicts.{Says}
-use Rattle.shape.specs.WireTest.{bothBelow, stretchesMeet, oneSide, linesMeet, shadowsMeet, segmentsTest, someEdge, segmentTriangleTest, trianglesTest}
+use Rattle.shape.specs.WireTest.{bothBelow, stretchesMeet, oneSide, linesMeet, shadowsMeet, segmentsTest, eitherEdge, segmentTriangleTest, trianglesTest}
 use Rattle.shape.proofs.Symbols.{O}
 use Rattle.shape.proofs.Trading.{share-trade}
 use Rattle.shape.proofs.VerdictLaws.{says-less, says-both, says-either, says-neither, says-by, says-same}
 use Rattle.shape.proofs.FlatLaws.{turnIn-trade, zero-says, below-says, is-flat}
 use Rattle.shape.proofs.Segments.{OneSide, BothBelow, sideIn, Touching, touching-is-meeting}
-use Rattle.shape.proofs.Thin.{flat-triangle}
+use Rattle.shape.proofs.Thin.{two-edges}
 use Rattle.shape.proofs.SpaceTest.{space-test, segment-space-test}
 
 -- ---- the numbers
@@ -147,8 +147,8 @@ module _ (p q r s : Point) where
 -- ---- a triangle that may be flat
 -- A flat triangle against any shape, by a test of its edges.
 edges-say : (Q : Shape) (test : Point → Point → Bool) → ((x y : Point) → Says (test x y) (Share 3 (x ∷ y ∷ []) Q)) → (a b c : Point) →
-    Flat 3 (a ∷ b ∷ c ∷ []) → Says (someEdge test a b c) (Share 3 (a ∷ b ∷ c ∷ []) Q)
-edges-say Q test says a b c flat = says-same (flat-triangle a b c flat) (says-either (says a b) (says-either (says b c) (says c a)))
+    Flat 3 (a ∷ b ∷ c ∷ []) → Says (eitherEdge test a b c) (Share 3 (a ∷ b ∷ c ∷ []) Q)
+edges-say Q test says a b c flat = says-same (two-edges a b c flat) (says-either (says a b) (says b c))
 
 pub segment-triangle-test : (p q a b c : Point) → Says (segmentTriangleTest p q a b c) (Share 3 (p ∷ q ∷ []) (a ∷ b ∷ c ∷ []))
 segment-triangle-test p q a b c =

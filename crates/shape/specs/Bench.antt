@@ -1,5 +1,5 @@
--- The bench rows that are proved (document 01, "Bench pieces", rows marked P), as one table: a row is its input and its
--- result. proofs/Bench.antt has the one theorem that every row holds of the definitions.
+-- The bench rows that are proved (document 01, "Bench pieces", rows marked P, and row 12 as document 02's Q-1 has it), as one table: a row is its
+-- input and its result. proofs/Bench.antt has the one theorem that every row holds of the definitions.
 use mathlib.Core.Path.{_≡_}
 use mathlib.Core.Bool.{Bool, true, false}
 use mathlib.Core.List.{List, [], _∷_}
@@ -86,7 +86,11 @@ row-P11 =
     (negℤ (pos 2305843009213693952))
     (negsuc 0)
 
+-- 12: the segment that the flat triangle (0,0,0) (1,1,1) (2,2,2) is and A meet.
+abbrev pub row-12 : Row
+row-12 = verdict-row 3 3 3 (pos 0 ∷ pos 0 ∷ pos 0 ∷ pos 1 ∷ pos 1 ∷ pos 1 ∷ pos 2 ∷ pos 2 ∷ pos 2 ∷ []) A true
+
 -- The table.
 abbrev pub rows : List Row
 rows =
-    row-P1 ∷ row-P2 ∷ row-P3 ∷ row-P4 ∷ row-P5 ∷ row-P6 ∷ row-P7 ∷ row-P8 ∷ row-P9 ∷ row-P10 ∷ row-P11 ∷ []
+    row-P1 ∷ row-P2 ∷ row-P3 ∷ row-P4 ∷ row-P5 ∷ row-P6 ∷ row-P7 ∷ row-P8 ∷ row-P9 ∷ row-P10 ∷ row-P11 ∷ row-12 ∷ []

@@ -1,7 +1,7 @@
 -- The tests in space of shapes that may be flat, as decisions by signs: two segments, a segment and a triangle, two triangles. A flat triangle is
--- the union of its three edges, and a point is a segment with equal ends (proofs/Thin.antt), so that two segments are all that is new. No public
--- promise speaks of these tests; code computes them. proofs/WireTest.antt shows that each says yes exactly when the two shapes have a point in
--- common.
+-- the union of its edges, any two of which are enough, and a point is a segment with equal ends (proofs/Thin.antt), so that two segments are all
+-- that is new. No public promise speaks of these tests; code computes them. proofs/WireTest.antt shows that each says yes exactly when the two
+-- shapes have a point in common.
 use mathlib.Core.Bool.{Bool, true, false, not, cond}
 use mathlib.Core.List.{[], _∷_}
 use Prim.Native.Nat.{ℕ}
@@ -46,17 +46,17 @@ segmentsTest p q r s =
     false
 
 -- ---- a segment or a triangle, and a triangle that may be flat
--- Whether some edge of a triangle passes a test of segments.
-abbrev pub someEdge : (Point → Point → Bool) → (a b c : Point) → Bool
-someEdge test a b c = cond (test a b) true (cond (test b c) true (test c a))
+-- Whether one of two edges of a triangle passes a test of segments. Where the triangle is flat they are the whole of it.
+abbrev pub eitherEdge : (Point → Point → Bool) → (a b c : Point) → Bool
+eitherEdge test a b c = cond (test a b) true (test b c)
 
 -- A segment p q and a triangle a b c.
 abbrev pub segmentTriangleTest : (p q a b c : Point) → Bool
-segmentTriangleTest p q a b c = cond (isFlat 3 (a ∷ b ∷ c ∷ [])) (someEdge (segmentsTest p q) a b c) (segmentSpaceTest p q a b c)
+segmentTriangleTest p q a b c = cond (isFlat 3 (a ∷ b ∷ c ∷ [])) (eitherEdge (segmentsTest p q) a b c) (segmentSpaceTest p q a b c)
 
 -- Two triangles: a flat one by its edges, the first before the second, and two that are not flat as before.
 abbrev pub trianglesTest : (p1 q1 r1 p2 q2 r2 : Point) → Bool
 trianglesTest p1 q1 r1 p2 q2 r2 =
-    cond (isFlat 3 (p1 ∷ q1 ∷ r1 ∷ [])) (someEdge (λ a b. segmentTriangleTest a b p2 q2 r2) p1 q1 r1)
-    (cond (isFlat 3 (p2 ∷ q2 ∷ r2 ∷ [])) (someEdge (λ a b. segmentTriangleTest a b p1 q1 r1) p2 q2 r2)
+    cond (isFlat 3 (p1 ∷ q1 ∷ r1 ∷ [])) (eitherEdge (λ a b. segmentTriangleTest a b p2 q2 r2) p1 q1 r1)
+    (cond (isFlat 3 (p2 ∷ q2 ∷ r2 ∷ [])) (eitherEdge (λ a b. segmentTriangleTest a b p1 q1 r1) p2 q2 r2)
     (spaceTest p1 q1 r1 p2 q2 r2))

@@ -4,7 +4,7 @@ use mathlib.Core.Bool.{Bool, false, cond}
 use Prim.Native.Nat.{ℕ}
 use Rattle.shape.specs.Points.{Point, coord}
 use Rattle.shape.specs.Flat.{isZero, allBelow}
-use Rattle.shape.specs.WireTest.{stretchesMeet, shadowsMeet, someEdge, segmentTriangleTest}
+use Rattle.shape.specs.WireTest.{stretchesMeet, shadowsMeet, eitherEdge, segmentTriangleTest}
 use Rattle.exact.specs.Grid.{limit}
 use Rattle.exact.specs.Vectors.{Sized}
 
@@ -27,6 +27,6 @@ shadowsAll p q u v = allBelow 3 (λ k. shadowsMeet k p q u v)
 abbrev pub isNull : Point → Bool
 isNull n = cond (isZero (coord 0 n)) (cond (isZero (coord 1 n)) (isZero (coord 2 n)) false) false
 
--- Some edge of the first triangle meets the second.
+-- One of two edges of the first triangle meets the second.
 abbrev pub edgeMeets : (p1 q1 r1 p2 q2 r2 : Point) → Bool
-edgeMeets p1 q1 r1 p2 q2 r2 = someEdge (λ a b. segmentTriangleTest a b p2 q2 r2) p1 q1 r1
+edgeMeets p1 q1 r1 p2 q2 r2 = eitherEdge (λ a b. segmentTriangleTest a b p2 q2 r2) p1 q1 r1

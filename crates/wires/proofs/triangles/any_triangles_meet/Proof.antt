@@ -8,8 +8,8 @@ use Rattle.wires.proofs.triangles.any_triangles_meet.Tie as tie
 is-null-requires : tie.Need-is-null-requires
 is-null-requires c κs = c .pre .2 .small
 
-some-edge-meets-requires : tie.Need-some-edge-meets-requires
-some-edge-meets-requires c κs =
+edge-meets-requires : tie.Need-edge-meets-requires
+edge-meets-requires c κs =
     let p = c .before .before .pre in
     (p .0, p .1, p .3)
 
@@ -17,13 +17,13 @@ returns : tie.Need-returns
 returns c =
     let t = c .before in
     let p = t .before .before in
-    if-taken _ _ (null-is-flat (p .args .t) (p .pre .2) (t .before .is-null .ensures)) (t .if1 .taken) (c .some-edge-meets .ensures)
+    if-taken _ _ (null-is-flat (p .args .t) (p .pre .2) (t .before .is-null .ensures)) (t .if1 .taken) (c .edge-meets .ensures)
 
 is-null-requires-2 : tie.Need-is-null-requires-2
 is-null-requires-2 c κs = c .before .before .pre .3 .small
 
-some-edge-meets-requires-2 : tie.Need-some-edge-meets-requires-2
-some-edge-meets-requires-2 c κs =
+edge-meets-requires-2 : tie.Need-edge-meets-requires-2
+edge-meets-requires-2 c κs =
     let p = c .before .before .before .before .pre in
     (p .1, p .0, p .2)
 
@@ -33,7 +33,7 @@ returns-2 c =
     let t1 = t2 .before .before in
     let p = t1 .before .before in
     if-left _ _ (null-is-flat (p .args .t) (p .pre .2) (t1 .before .is-null .ensures)) (t1 .if1 .left)
-    (if-taken _ _ (null-is-flat (p .args .u) (p .pre .3) (t2 .before .is-null2 .ensures)) (t2 .if2 .taken) (c .some-edge-meets2 .ensures))
+    (if-taken _ _ (null-is-flat (p .args .u) (p .pre .3) (t2 .before .is-null2 .ensures)) (t2 .if2 .taken) (c .edge-meets2 .ensures))
 
 spaces-meet-requires : tie.Need-spaces-meet-requires
 spaces-meet-requires c κs = search needs
@@ -51,10 +51,10 @@ any-triangles-meet-spec =
     tie.close
     (tie.spec
     is-null-requires
-    some-edge-meets-requires
+    edge-meets-requires
     returns
     is-null-requires-2
-    some-edge-meets-requires-2
+    edge-meets-requires-2
     returns-2
     spaces-meet-requires
     returns-3)

@@ -8,14 +8,14 @@ use Rattle.wires.proofs.triangles.segment_meets_any.Tie as tie
 is-null-requires : tie.Need-is-null-requires
 is-null-requires c κs = c .pre .3 .small
 
-some-edge-meets-segment-requires : tie.Need-some-edge-meets-segment-requires
-some-edge-meets-segment-requires c κs = search needs
+edge-meets-segment-requires : tie.Need-edge-meets-segment-requires
+edge-meets-segment-requires c κs = search needs
 
 returns : tie.Need-returns
 returns c =
     let t = c .before in
     let p = t .before .before in
-    if-taken _ _ (null-is-flat (p .args .t) (p .pre .3) (t .before .is-null .ensures)) (t .if1 .taken) (c .some-edge-meets-segment .ensures)
+    if-taken _ _ (null-is-flat (p .args .t) (p .pre .3) (t .before .is-null .ensures)) (t .if1 .taken) (c .edge-meets-segment .ensures)
 
 segment-meets-space-requires : tie.Need-segment-meets-space-requires
 segment-meets-space-requires c κs = search needs
@@ -28,4 +28,4 @@ returns-2 c =
 
 pub segment-meets-any-spec : {M : Type 1} → statement M
 segment-meets-any-spec =
-    tie.close (tie.spec is-null-requires some-edge-meets-segment-requires returns segment-meets-space-requires returns-2)
+    tie.close (tie.spec is-null-requires edge-meets-segment-requires returns segment-meets-space-requires returns-2)
