@@ -1,5 +1,6 @@
-//! Flat triangles, whose corners lie on one line. Such a triangle is what its three edges are, a segment
-//! or, where all corners are equal, a point; so it meets what one of its edges meets.
+//! Flat triangles, whose corners lie on one line. Such a triangle is what its edges are, a segment or,
+//! where all corners are equal, a point. Two of them are the whole of it: so it meets what one of two
+//! edges meets.
 
 use super::{coordinates_kept, flat, flattened, side, Point, Shape, Triangle, Whole};
 use std::cmp::Ordering::{Equal, Greater, Less};
@@ -14,7 +15,13 @@ pub fn meet<W: Whole>(first: &Shape, second: &Shape) -> bool {
     } else {
         (second, first)
     };
-    edges_of(thin).into_iter().any(|edge| segment_meets::<W>(edge, other))
+    parts_of(thin).into_iter().any(|part| segment_meets::<W>(part, other))
+}
+
+/// Two edges, which are the whole of a flat triangle.
+fn parts_of(shape: &Shape) -> [Segment; 2] {
+    let [a, b, c] = shape.corners;
+    [[a, b], [b, c]]
 }
 
 fn edges_of(shape: &Shape) -> [Segment; 3] {
@@ -24,9 +31,9 @@ fn edges_of(shape: &Shape) -> [Segment; 3] {
 
 fn segment_meets<W: Whole>(segment: Segment, shape: &Shape) -> bool {
     if shape.is_flat {
-        edges_of(shape)
+        parts_of(shape)
             .into_iter()
-            .any(|edge| segments_meet::<W>(segment, edge))
+            .any(|part| segments_meet::<W>(segment, part))
     } else {
         reaches::<W>(segment, shape)
     }
@@ -59,14 +66,14 @@ fn reaches_in_plane<W: Whole>(segment: Segment, triangle: Triangle) -> bool {
     flat::segment_meets::<W>(flattened(segment, kept), flattened(triangle, kept))
 }
 
-/// Two segments are apart where their four ends lie in no plane, where along some axis the ends of one
-/// are seen strictly on one side of the other's line, and where in some coordinate their stretches are.
+/// Two segments are apart where in some coordinate their stretches are, where their four ends lie in no
+/// plane, and where along some axis the ends of one are seen strictly on one side of the other's line.
 fn segments_meet<W: Whole>([p, q]: Segment, [r, s]: Segment) -> bool {
-    side::<W>(p, q, r, s) == W::from(0)
+    (0..3).all(|k| p[k].min(q[k]) <= r[k].max(s[k]) && r[k].min(s[k]) <= p[k].max(q[k]))
+        && side::<W>(p, q, r, s) == W::from(0)
         && [[1, 2], [2, 0], [0, 1]]
             .iter()
             .all(|&kept| seen_meeting::<W>(flattened([p, q, r, s], kept)))
-        && (0..3).all(|k| p[k].min(q[k]) <= r[k].max(s[k]) && r[k].min(s[k]) <= p[k].max(q[k]))
 }
 
 fn seen_meeting<W: Whole>([p, q, r, s]: [flat::Point; 4]) -> bool {
