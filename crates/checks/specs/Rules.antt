@@ -1,4 +1,4 @@
--- The reasons for saying no that several calls share: document 01's table and order.
+-- The reasons for saying no that several calls share: document 01's table and order, with document 02's Q-1.
 use mathlib.Core.Bool.{cond}
 use mathlib.Core.List.{List}
 use Prim.Native.Nat.{ℕ, _*_}

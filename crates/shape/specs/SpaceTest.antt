@@ -1,6 +1,6 @@
 -- The tests in space as decisions by signs: two triangles, and a segment and a triangle, by document 01's method (document 000,
--- section 3). No public promise speaks of them; code computes them. proofs/SpaceTest.antt shows that each says yes exactly when
--- the two shapes have a point in common.
+-- section 3), where no triangle is flat (WireTest.antt has the others). No public promise speaks of them; code computes them.
+-- proofs/SpaceTest.antt shows that each says yes exactly when the two shapes have a point in common.
 use mathlib.Core.Bool.{Bool, true, false, cond}
 use mathlib.Core.List.{List, [], _∷_}
 use Prim.Native.Nat.{ℕ, zero, suc, _+_, _*_}

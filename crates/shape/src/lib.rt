@@ -7,7 +7,8 @@
 //   Flat         flat triangles and segments, and the test that tells them
 //   Verdicts     what a verdict says
 //   PlaneTest    the tests in the plane as decisions by signs
-//   SpaceTest    the tests in space as decisions by signs
+//   SpaceTest    the tests in space as decisions by signs, of triangles that are not flat
+//   WireTest     the same of two segments, and of shapes that may be flat
 //   Bench        the table of proved bench rows
 //
 // proofs/ holds the laws, each proved once over the number of coordinates and, where it makes sense, of corners:
@@ -15,19 +16,25 @@
 //   Trading      trading the shapes, reordering corners, a part of the corners, moving both by a vector
 //   Apart        apart by a functional: what proves every "no"
 //   Meeting      meeting by weights: document 01's definition word for word
+//   Mixing       a shape whose corners are points of another is part of it; a segment cut in two
+//   Seeking      some number below n has a property, or all have another
+//   Shadows      shapes as they are seen in some of their coordinates
 //   Dependence   meeting by a dependence of n + 2 points in n coordinates: what proves every "yes"
 //   Witnesses    its three instances: a point in a triangle, two segments that cross, a segment through a triangle
 //   SignLaws     swapping, cycling, equal points, moving, for plane and space at once
 //   VerdictLaws  a verdict by signs; two verdicts on one claim are the same
 //   FlatLaws     flat triangles told by turns, and by the test
-//   Lines        flat in document 01's words: one corner between the others; in any order, wherever it is moved
+//   Lines        flat in document 01's words: one corner between the others; in any order
+//   Thin         what a flat shape is: the union of its edges, or a point
 //   Edges        on which side of a line a point lies; apart by a line
 //   TriangleLeaves, SegmentLeaves   each answer of the tests in the plane with its certificate
 //   PlaneTest    each test in the plane says yes exactly when the two shapes have a point in common
 //   Standings    each of the 27 sign patterns names a standing that fits its signs
 //   Planes       planes of space, and what lies strictly on one side of one
+//   Segments     two segments, over any number of coordinates: what keeps them apart
 //   Dropping     shapes in one plane, with a coordinate dropped
 //   SpaceLeaves  each answer of the tests in space with its certificate
-//   SpaceTest    each test in space says yes exactly when the two shapes have a point in common
+//   SpaceTest    each test in space says yes exactly when the two shapes have a point in common, where no triangle is flat
+//   WireTest     the same of two segments, and of all shapes, flat or not
 //   Symbols      points as symbols for the ring solver
 //   Bench        every row of the table holds

@@ -1,5 +1,6 @@
-// The tests in space: two triangles, and a segment and a triangle, of the grid. The crate is the inside of the calls and offers none
-// itself: its functions have a `requires`, since what is off the grid or flat is refused before one of them is asked.
+// The tests in space: two triangles, and a segment and a triangle, of the grid, where no triangle is flat. The crate is the inside of the calls and
+// offers none itself: its functions have a `requires`, since what is off the grid is refused before one of them is asked. Crate `wires` takes the flat
+// ones.
 mod meeting;
 
 pub use meeting::SpaceTriangle;

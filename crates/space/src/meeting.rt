@@ -1,5 +1,5 @@
-// The tests in space on machine signs: the decisions of crate shape's specs/SpaceTest.antt, sign by sign, on shapes of the grid. What
-// is off the grid or flat was refused before.
+// The tests in space on machine signs: the decisions of crate shape's specs/SpaceTest.antt, sign by sign, on shapes of the grid. What is off the grid
+// was refused before.
 use exact::PlanePoint;
 use exact::SpacePoint;
 use exact::level_at;
