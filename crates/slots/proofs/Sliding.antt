@@ -20,7 +20,7 @@ use Rattle.slots.specs.Searches.{lowest, leaves}
 use Rattle.slots.specs.Arrays.{numbersOf, markOf}
 use Rattle.slots.specs.Showing.{FitSlot, Fit}
 use Rattle.slots.proofs.Searching.{below-lowest}
-use Rattle.slots.proofs.Grids.{on-small}
+use Rattle.slots.proofs.Grids.{tested-on}
 
 -- ---- one triangle
 -- Where its nine numbers move by the steps, its corners move by the vector.
@@ -37,7 +37,7 @@ moved-ready : (dx dy dz : ℤ) (numbers : List ℤ) → length numbers ≡ 9 →
     Ready 9 (moved (thrice dx dy dz) numbers)
 moved-ready dx dy dz numbers long on = record {
   long = length-moved (thrice dx dy dz) numbers (omega arith) ∙ long;
-  each = on-small (moved (thrice dx dy dz) numbers) on;
+  each = tested-on (moved (thrice dx dy dz) numbers) on;
 }
 
 -- ---- one slot
