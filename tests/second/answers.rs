@@ -1,4 +1,4 @@
-//! Own answers to every call, refusals included, as document 01 asks for them.
+//! Own answers to every call, refusals included, as documents 01 and 02 ask for them.
 
 pub mod clashes;
 pub mod faults;
