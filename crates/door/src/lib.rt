@@ -7,11 +7,13 @@
 // proofs/Unique.antt shows that nothing else meets a contract.
 mod listings;
 mod plates;
+mod sheets;
 mod signs;
 mod verdicts;
 
 pub use listings::zg_list;
 pub use plates::zg_plate;
+pub use sheets::zg_sheet;
 pub use signs::zg_side;
 pub use signs::zg_turn;
 pub use verdicts::zg_flat;

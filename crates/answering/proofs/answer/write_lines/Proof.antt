@@ -1,0 +1,216 @@
+-- `answering::answer::write_lines` meets its contract: the lines so far are right, whatever lines follow them. Assumes nothing.
+use mathlib.Core.Path.{_≡_, sym, ap, _∙_, subst}
+use mathlib.Core.List.{List}
+use Prim.Native.Nat.{ℕ, _+_, _-_, _≤_}
+use borrow.Author.Needs.{needs}
+use native.Mathlib.Omega.{arith}
+use lib.ListN.{length, length-drop, drop}
+use Rattle.algebra.proofs.Parts.{length-lent}
+use Rattle.fields.specs.Fields.{tagFits, headOf, callOf}
+use Rattle.fields.specs.declared.heads.Head.the-variants.{Whole}
+use Rattle.fields.proofs.FieldLaws.{WholeField, whole-field, broken-number}
+use Rattle.lines.specs.Lines.{lineOf}
+use Rattle.lines.proofs.LineLaws.{short-line}
+use Rattle.answering.specs.Steps.{FieldPut}
+use Rattle.answering.proofs.Small.{small-count}
+use Rattle.answering.proofs.SheetLaws.{
+  Begun,
+  begun,
+  one-more,
+  stopped,
+  ended,
+  all-read,
+  room-for-line,
+  rest-at,
+  body-at,
+  line-length,
+}
+use Rattle.answering.proofs.answer.write_lines.Statement.{statement}
+use Rattle.answering.proofs.answer.write_lines.Tie as tie
+
+abbrev Inv-loop : tie.InvT-loop
+Inv-loop sheet out₀ plate₀ at₀ end₀ out plate at end = Begun sheet out₀ plate at end out
+
+abbrev μ-loop : tie.MeasureT-loop
+μ-loop sheet out₀ plate₀ at₀ end₀ out plate at end = length sheet - at
+
+-- What the bytes that are left begin with.
+begins : (h : tie.After-head-of Inv-loop μ-loop) →
+    h .head-of .result ≡ headOf (drop (h .before .before .before .loop .at) (h .before .before .before .before .before .before .before .args .sheet .now))
+begins h =
+    let l = h .before .before .before in
+    h .head-of .ensures ∙ ap headOf (rest-at (l .loop .at) (l .before .before .before .before .args .sheet .now))
+
+-- There is room for a line.
+free : (i : tie.In-loop Inv-loop μ-loop) → i .before .loop .end + 8 ≤ length (i .before .loop .out)
+free i =
+    let l = i .before in
+    let s = l .before .before .before .before in
+    room-for-line (l .loop .inv) (i .loop-test .taken) (s .pre .0) (s .pre .1)
+
+-- A whole field, and where it ends.
+module _ (t : tie.After-known-told2 Inv-loop μ-loop) where
+  whole : let l = t .before .before .before .before .before .before in
+      headOf (drop (l .loop .at) (l .before .before .before .before .args .sheet .now)) ≡ Whole (t .before .tag .given .0 .0) (t .before .tag .given .0 .1 .0)
+  whole = sym (begins (t .before .before .before)) ∙ t .before .tag .given .1
+
+  field-known : let l = t .before .before .before .before .before .before in
+      WholeField (drop (l .loop .at) (l .before .before .before .before .args .sheet .now)) (t .before .tag .given .0 .0) (t .before .tag .given .0 .1 .0)
+  field-known =
+      let l = t .before .before .before .before .before .before in
+      whole-field (drop (l .loop .at) (l .before .before .before .before .args .sheet .now)) whole
+
+  ends-inside : let l = t .before .before .before .before .before .before in
+      l .loop .at + 3 + t .before .tag .given .0 .1 .0 ≤ length (l .before .before .before .before .args .sheet .now)
+  ends-inside =
+      let l = t .before .before .before .before .before .before in
+      let sheet = l .before .before .before .before .args .sheet .now in
+      omega (arith, field-known .room, length-drop (l .loop .at) sheet, l .loop .inv .inside)
+
+  few : let l = t .before .before .before .before .before .before in
+      length (l .before .before .before .before .args .sheet .now) ≤ 65536
+  few = t .before .before .before .before .before .before .before .before .before .before .pre .0
+
+empty-requires : tie.Need-empty-requires Inv-loop μ-loop
+empty-requires c κs = search needs
+
+loop-holds : tie.Need-loop-holds Inv-loop μ-loop
+loop-holds c = begun (c .before .before .before .args .sheet .now) (c .before .before .before .args .out .now) (c .empty .ensures)
+
+sub-head-of : tie.Need-sub-head-of Inv-loop μ-loop
+sub-head-of c = search needs
+
+part-head-of-start : tie.Need-part-head-of-start Inv-loop μ-loop
+part-head-of-start c = search needs
+
+part-head-of-end : tie.Need-part-head-of-end Inv-loop μ-loop
+part-head-of-end c = search needs
+
+head-of-requires : tie.Need-head-of-requires Inv-loop μ-loop
+head-of-requires c κs = search needs
+
+enum-told : tie.Need-enum-told Inv-loop μ-loop
+enum-told c = search needs
+
+same-length : tie.Need-same-length Inv-loop μ-loop
+same-length c = c .before .before .before .before .before .loop .inv .long
+
+returns : tie.Need-returns Inv-loop μ-loop
+returns c =
+    let h = c .before .before in
+    ended (h .before .before .before .loop .inv) (sym (begins h) ∙ c .enum-told .given .1)
+
+enum-known-number : tie.Need-enum-known-number Inv-loop μ-loop
+enum-known-number c = search needs
+
+put-line-requires : tie.Need-put-line-requires Inv-loop μ-loop
+put-line-requires c κs =
+    let n = c .before .before in
+    let h = n .before .before in
+    let i = h .before .before in
+    let l = i .before .loop in
+    (broken-number _ (sym (begins h) ∙ n .number .given .1), small-count (l .inv .calls) (l .inv .stands), free i)
+
+same-length-2 : tie.Need-same-length-2 Inv-loop μ-loop
+same-length-2 c =
+    let p = c .before .before in
+    let h = p .before .before .before .before .before in
+    let i = h .before .before in
+    let l = i .before .loop in
+    let n = p .before .before .before in
+    line-length (l .out) (l .end) (lineOf (n .number .given .0 .0) (l .plate .count)) (p .put-line .ensures .1)
+    (omega (arith, free i, short-line (n .number .given .0 .0) (l .plate .count) (broken-number _ (sym (begins h) ∙ n .number .given .1))))
+    ∙ l .inv .long
+
+returns-2 : tie.Need-returns-2 Inv-loop μ-loop
+returns-2 c =
+    let p = c .before .before in
+    let n = p .before .before .before in
+    let h = n .before .before in
+    stopped (h .before .before .before .loop .inv) (n .number .given .0 .0) (sym (begins h) ∙ n .number .given .1)
+    (record { place = p .put-line .ensures .0; is = p .put-line .ensures .1 })
+
+enum-known-tag : tie.Need-enum-known-tag Inv-loop μ-loop
+enum-known-tag c = search needs
+
+add-body : tie.Need-add-body Inv-loop μ-loop
+add-body c = record { fits = omega (arith, ends-inside c, few c) }
+
+add-next : tie.Need-add-next Inv-loop μ-loop
+add-next c = record { fits = omega (arith, ends-inside c, few c) }
+
+sub-apply-field : tie.Need-sub-apply-field Inv-loop μ-loop
+sub-apply-field c = omega arith
+
+part-apply-field-start : tie.Need-part-apply-field-start Inv-loop μ-loop
+part-apply-field-start c = omega arith
+
+part-apply-field-end : tie.Need-part-apply-field-end Inv-loop μ-loop
+part-apply-field-end c = ends-inside c
+
+apply-field-requires : tie.Need-apply-field-requires Inv-loop μ-loop
+apply-field-requires c κs =
+    let t = c .before .before in
+    let i = t .before .before .before .before .before in
+    let l = i .before in
+    let sheet = l .before .before .before .before .args .sheet .now in (
+      record { calls = l .loop .inv .calls; stands = l .loop .inv .stands },
+      ap (tagFits (t .before .tag .given .0 .0)) (length-lent (l .loop .at + 3) (t .before .tag .given .0 .1 .0) sheet (ends-inside t)) ∙ field-known t .fits,
+      free i,
+    )
+
+loop-less : tie.Need-loop-less Inv-loop μ-loop
+loop-less c =
+    let t = c .before .before .before .before .before .before in
+    omega (arith, ends-inside t)
+
+loop-again : tie.Need-loop-again Inv-loop μ-loop
+loop-again c =
+    let a = c .before .before .before in
+    let t = a .before .before .before in
+    let i = t .before .before .before .before .before in
+    let l = i .before in
+    let sheet = l .before .before .before .before .args .sheet .now in
+    let tag = t .before .tag .given .0 .0 in
+    let size = t .before .tag .given .0 .1 .0 in
+    one-more (l .loop .inv) tag size (whole t)
+    (subst (λ (body : List ℕ). FieldPut (l .loop .plate) (callOf tag body) (l .loop .out) (l .loop .end) (a .apply-field .result) (a .apply-field .last .1 .1 .1 .0))
+    (body-at (l .loop .at) size sheet) (a .apply-field .ensures))
+    (free i)
+
+same-length-3 : tie.Need-same-length-3 Inv-loop μ-loop
+same-length-3 c = c .before .loop .inv .long
+
+returns-3 : tie.Need-returns-3 Inv-loop μ-loop
+returns-3 c = all-read (c .before .loop .inv) (c .loop-test .left)
+
+pub write-lines-spec : {M : Type 1} → statement M
+write-lines-spec =
+    tie.close
+    (tie.spec
+    Inv-loop
+    μ-loop
+    empty-requires
+    loop-holds
+    sub-head-of
+    part-head-of-start
+    part-head-of-end
+    head-of-requires
+    enum-told
+    same-length
+    returns
+    enum-known-number
+    put-line-requires
+    same-length-2
+    returns-2
+    enum-known-tag
+    add-body
+    add-next
+    sub-apply-field
+    part-apply-field-start
+    part-apply-field-end
+    apply-field-requires
+    loop-less
+    loop-again
+    same-length-3
+    returns-3)
