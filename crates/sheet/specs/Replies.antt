@@ -15,7 +15,7 @@ abbrev pub gotCount : Got → ℕ
 gotCount (Bytes n) = n
 gotCount Failed = 0
 
--- The front of `text` is what document 02 has written for the front of `sheet`.
-pub data Replied (sheet text : List ℕ) : Reply → Type 0 where
-  made : {read size : ℕ} → Counts read sheet → Counts size text → Output (take read sheet) (take size text) → Replied sheet text (Made read size)
-  unread : Replied sheet text Unread
+-- Where reading failed there is no answer. Else the front of `text` is what document 02 has written for the bytes read, the front of `sheet`.
+pub data Replied (sheet text : List ℕ) : Got → Reply → Type 0 where
+  unread : Replied sheet text Failed Unread
+  made : {read size : ℕ} → Counts size text → Output (take read sheet) (take size text) → Replied sheet text (Bytes read) (Made size)

@@ -33,19 +33,20 @@ fn read_all(fd: i32, buf: &mut [u8]) -> Got
     Got::Bytes(done)
 }
 
-// An answer: how many bytes of the sheet were read, and how many of text there are to write. Or a read that failed.
+// An answer: so many bytes of text to write. Or none, because a read failed.
 pub enum Reply {
-    Made(usize, usize),
+    Made(usize),
     Unread,
 }
 
-// Reads a sheet and makes its answer.
-fn answer_input(sheet: &mut [u8], text: &mut [u8; TEXT]) -> Reply
-    ensures { λ r. ⌜ Replied (now (sheet .exit)) (now (text .exit)) r ⌝ }
+// The answer to what was read into the front of `sheet`.
+fn reply_to(got: Got, sheet: &[u8], text: &mut [u8; TEXT]) -> Reply
+    requires { ⌜ Counts (gotCount got) (now sheet) ⌝ }
+    ensures { λ r. ⌜ Replied (now (sheet .entry)) (now (text .exit)) got r ⌝ }
 {
-    match read_all(STDIN_FILENO, sheet) {
+    match got {
         Got::Failed => Reply::Unread,
-        Got::Bytes(n) => Reply::Made(n, answering::answer_sheet(&sheet[..n], text)),
+        Got::Bytes(n) => Reply::Made(answering::answer_sheet(&sheet[..n], text)),
     }
 }
 
@@ -53,11 +54,12 @@ fn answer_input(sheet: &mut [u8], text: &mut [u8; TEXT]) -> Reply
 fn main() {
     let mut sheet = [0u8; LONGEST + 1];
     let mut text = [0u8; TEXT];
-    match answer_input(&mut sheet[..], &mut text) {
+    let got = read_all(STDIN_FILENO, &mut sheet[..]);
+    match reply_to(got, &sheet[..], &mut text) {
         Reply::Unread => {
             io::write_all(STDERR_FILENO, b"sheet: standard input can't be read\n");
         }
-        Reply::Made(_, size) => {
+        Reply::Made(size) => {
             if !io::write_all(STDOUT_FILENO, &text[..size]) {
                 io::write_all(STDERR_FILENO, b"sheet: standard output can't be written\n");
             }

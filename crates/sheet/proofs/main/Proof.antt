@@ -4,6 +4,7 @@ use mathlib.Core.List.{List}
 use Prim.Native.Nat.{ℕ}
 use Rattle.io.specs.Counts.{Counts}
 use Rattle.sheet.specs.Replies.{Replied, made}
+use Rattle.sheet.specs.declared.Got.{Got}
 use Rattle.sheet.specs.declared.Reply.{Reply}
 use Rattle.sheet.specs.declared.Reply.the-variants.{Made}
 use borrow.Author.Needs.{needs}
@@ -11,19 +12,25 @@ use Rattle.sheet.proofs.main.Statement.{statement}
 use Rattle.sheet.proofs.main.Tie as tie
 
 -- As many bytes as the answer is long lie at the front of the text.
-text-counted : {sheet text : List ℕ} {read size : ℕ} → Replied sheet text (Made read size) → Counts size text
-text-counted (made r s o) = s
+text-counted : {sheet text : List ℕ} {got : Got} {size : ℕ} → Replied sheet text got (Made size) → Counts size text
+text-counted (made s o) = s
 
-counted : (t : tie.After-size) → Counts (t .size .given .0 .1 .0) (t .before .before .before .answer-input .last .1 .0)
+counted : (t : tie.After-size) → Counts (t .size .given .0 .0) (t .before .before .reply-to .last .1 .1 .0)
 counted t =
-    let a = t .before .before .before in
-    text-counted (subst (Replied (a .answer-input .last .0) (a .answer-input .last .1 .0)) (t .size .given .1) (a .answer-input .ensures))
+    let a = t .before .before in
+    text-counted (subst (Replied _ (a .reply-to .last .1 .1 .0) _) (t .size .given .1) (a .reply-to .ensures))
 
-slice-aggregate-answer-input : tie.Need-slice-aggregate-answer-input
-slice-aggregate-answer-input c = search needs
+slice-aggregate-read-all : tie.Need-slice-aggregate-read-all
+slice-aggregate-read-all c = search needs
 
-answer-input-requires : tie.Need-answer-input-requires
-answer-input-requires c κs = search needs
+read-all-requires : tie.Need-read-all-requires
+read-all-requires c κs = search needs
+
+slice-aggregate-reply-to : tie.Need-slice-aggregate-reply-to
+slice-aggregate-reply-to c = search needs
+
+reply-to-requires : tie.Need-reply-to-requires
+reply-to-requires c κs = search needs
 
 enum-told : tie.Need-enum-told
 enum-told c = search needs
@@ -65,8 +72,10 @@ pub main-spec : {M : Type 1} → statement M
 main-spec =
     tie.close
     (tie.spec
-    slice-aggregate-answer-input
-    answer-input-requires
+    slice-aggregate-read-all
+    read-all-requires
+    slice-aggregate-reply-to
+    reply-to-requires
     enum-told
     slice-aggregate-write-all
     write-all-requires
