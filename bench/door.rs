@@ -3,8 +3,13 @@
 #[path = "../include/zimogrud.rs"]
 mod zimogrud;
 
+use crate::ordinary::sheet::TEXT_BYTES;
 use crate::ordinary::Answer;
 use zimogrud::{zg_list, zg_pair, zg_plate};
+
+extern "C" {
+    fn zg_sheet(sheet: *const u8, sheet_len: usize, text: *mut u8) -> usize;
+}
 
 pub fn pair(first: &[i32], second: &[i32]) -> Answer {
     let mut numbers = [0; 4];
@@ -54,6 +59,12 @@ pub fn plate(calls: &[u32], numbers: &[i32], answers: &mut [u64]) -> u64 {
             answers.len(),
         )
     }
+}
+
+/// Writes the answer to a job sheet to the front of the text, and gives its length.
+pub fn sheet(sheet: &[u8], text: &mut [u8; TEXT_BYTES]) -> usize {
+    // SAFETY: each pointer leads to as many bytes as the call asks for, and nothing else uses them meanwhile.
+    unsafe { zg_sheet(sheet.as_ptr(), sheet.len(), text.as_mut_ptr()) }
 }
 
 fn told_answer(result: u32, [number, side, place, value]: [u64; 4]) -> Answer {

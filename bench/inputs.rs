@@ -1,9 +1,10 @@
 //! The pairs: three kinds that are timed, each from a seed of its own, and faulty ones. The listings'
 //! inputs, in `lists`, are made of triangles of these kinds, and of surfaces; the plates' inputs, in
-//! `plates`, of calls about such triangles.
+//! `plates`, of calls about such triangles, and the sheets' inputs, in `sheets`, of fields about them.
 
 pub mod lists;
 pub mod plates;
+pub mod sheets;
 mod surfaces;
 
 use crate::ordinary::{has_area, GRID, TRIANGLE_NUMBERS};

@@ -1,16 +1,17 @@
 //! The benchmark: times calls of libdoor.a beside ordinary code that does the same job by the same
 //! method, on the same inputs in the same run, and gives the ratio of the two. The calls are `zg_pair`
-//! ("pairs"), `zg_list` ("listings") and `zg_plate` ("plates").
+//! ("pairs"), `zg_list` ("listings"), `zg_plate` ("plates") and `zg_sheet` ("sheets").
 //!
 //! For the pairs and the listings the ordinary code has 128-bit numbers. With 64-bit numbers it is
-//! timed too, to show what of that is due to the width of the numbers alone. For the plates it has
-//! 64-bit numbers. A plate that recounts all pairs at each call is timed too, to show what keeping the
-//! count gains. With --check nothing is timed: a part of the plates' inputs is compared.
+//! timed too, to show what of that is due to the width of the numbers alone. For the plates and the
+//! sheets it has 64-bit numbers. A plate that recounts all pairs at each call is timed too, to show what
+//! keeping the count gains. With --check nothing is timed: the sheets' inputs and a part of the plates'
+//! are compared.
 //!
 //! `bench/run` says how it is called, and which arguments go together.
 //!
 //! Exit status: 0 all agree; 1 two answers differ, or a ratio of the door is above what --at-most
-//! allows for the pairs, or with --goals above the goal of a listing or a plate; 2 bad arguments.
+//! allows for the pairs, or with --goals above the goal of a listing, a plate or a sheet; 2 bad arguments.
 
 mod door;
 mod inputs;
@@ -21,6 +22,7 @@ mod plates;
 #[allow(dead_code)] // the second program asks it for more
 #[path = "../tests/second/random.rs"]
 mod random;
+mod sheets;
 mod timing;
 
 use std::process::ExitCode;
@@ -34,9 +36,10 @@ struct Asked {
     pairs: bool,
     listings: bool,
     plates: bool,
+    sheets: bool,
     /// The highest ratio that is allowed for the pairs.
     at_most: Option<f64>,
-    /// Whether each listing and each plate that is timed has to reach its goal.
+    /// Whether each listing, each plate and each sheet that is timed has to reach its goal.
     goals: bool,
 }
 
@@ -49,7 +52,7 @@ fn main() -> ExitCode {
         }
     };
     if asked.check {
-        return status(told(plates::compare()));
+        return status(told(plates::compare()) & told(sheets::compare()));
     }
     // All are run even if one fails, and each says its last line as soon as it has it.
     let mut all_well = true;
@@ -61,6 +64,9 @@ fn main() -> ExitCode {
     }
     if asked.plates {
         all_well &= told(plates::compare_and_time(asked.goals));
+    }
+    if asked.sheets {
+        all_well &= told(sheets::compare_and_time(asked.goals));
     }
     status(all_well)
 }
@@ -87,14 +93,15 @@ fn read_arguments(mut arguments: impl Iterator<Item = String>) -> Result<Asked, 
             "pairs" => asked.pairs = true,
             "listings" => asked.listings = true,
             "plates" => asked.plates = true,
+            "sheets" => asked.sheets = true,
             "--at-most" => asked.at_most = Some(read_ratio(&arguments.next().unwrap_or_default())?),
             "--goals" => asked.goals = true,
             "--check" => asked.check = true,
             _ => return Err(format!("unknown argument {name:?}")),
         }
     }
-    if !asked.pairs && !asked.listings && !asked.plates {
-        (asked.pairs, asked.listings, asked.plates) = (true, true, true);
+    if !asked.pairs && !asked.listings && !asked.plates && !asked.sheets {
+        (asked.pairs, asked.listings, asked.plates, asked.sheets) = (true, true, true, true);
     }
     Ok(asked)
 }

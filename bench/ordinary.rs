@@ -2,7 +2,7 @@
 //! the same checks in the same order, decides by the same method ("The method of document 000" in
 //! document 01, step by step, and of flat triangles the one in `thin`) and gives the same four numbers.
 //! The ordinary listing, in `listing`, stands to `zg_list` in the same way, and the ordinary plate, in
-//! `plate`, to `zg_plate`.
+//! `plate`, to `zg_plate`, and the ordinary reader of job sheets, in `sheet`, to `zg_sheet`.
 //!
 //! Every difference, product and determinant is a number of the type `W`: i128, or i64, in which
 //! everything on the grid fits as well.
@@ -10,6 +10,7 @@
 mod flat;
 pub mod listing;
 pub mod plate;
+pub mod sheet;
 mod thin;
 
 use std::cmp::Ordering::{Equal, Greater, Less};

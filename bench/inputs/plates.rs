@@ -68,7 +68,7 @@ pub fn timed() -> [Input; 3] {
             9,
             "random over the middle of the grid",
             Style {
-                any_triangle: |random| box_list(random, -MIDDLE_HALF, MIDDLE_HALF),
+                any_triangle: any_middle_triangle,
                 farthest: [MIDDLE_HALF / 8; 3],
             },
         ),
@@ -146,8 +146,12 @@ fn any_below(random: &mut Random, end: u32) -> u32 {
     }
 }
 
+pub fn any_middle_triangle(random: &mut Random) -> List {
+    box_list(random, -MIDDLE_HALF, MIDDLE_HALF)
+}
+
 /// Now and then a move by nothing, or by far too much.
-fn any_move(random: &mut Random, farthest: [i32; 3]) -> List {
+pub fn any_move(random: &mut Random, farthest: [i32; 3]) -> List {
     let mut list = [0; TRIANGLE_NUMBERS];
     for (step, farthest) in list.iter_mut().zip(farthest) {
         *step = random.between(-farthest, farthest);

@@ -122,11 +122,15 @@ impl<S: Slots> Plate<S> {
             _ => return None,
         };
         let answer = answered(value);
-        let (count, reach) = (self.slots.count(), self.journal.len() as u64);
+        let (count, reach) = (self.count(), self.journal.len() as u64);
         Some([answer.number, answer.side, answer.place, count, reach, answer.value])
     }
 
-    fn place(&mut self, slot: u32, part: u32, numbers: &[i32]) -> Result<u64, Answer> {
+    pub fn count(&self) -> u64 {
+        self.slots.count()
+    }
+
+    pub fn place(&mut self, slot: u32, part: u32, numbers: &[i32]) -> Result<u64, Answer> {
         let slot = checked_slot(slot)?;
         check_part(part, 0)?;
         let triangle = checked_triangle(numbers)?;
@@ -138,14 +142,14 @@ impl<S: Slots> Plate<S> {
         Ok(0)
     }
 
-    fn lift(&mut self, slot: u32) -> Result<u64, Answer> {
+    pub fn lift(&mut self, slot: u32) -> Result<u64, Answer> {
         let slot = checked_slot(slot)?;
         let held = self.slots.take(slot).ok_or_else(|| refusal(9, 0, slot))?;
         self.note(Change::Lifted { slot, held });
         Ok(0)
     }
 
-    fn shift(&mut self, part: u32, by: Point) -> Result<u64, Answer> {
+    pub fn shift(&mut self, part: u32, by: Point) -> Result<u64, Answer> {
         check_part(part, 0)?;
         self.check_held(part, 0)?;
         let mut slots = self.slots.held().iter();
@@ -158,7 +162,7 @@ impl<S: Slots> Plate<S> {
         Ok(0)
     }
 
-    fn undo(&mut self) -> Result<u64, Answer> {
+    pub fn undo(&mut self) -> Result<u64, Answer> {
         match self.journal.pop_back().ok_or_else(|| refusal(12, 0, 0))? {
             Change::Placed { slot } => {
                 self.slots.take(slot);

@@ -1,0 +1,136 @@
+//! The sheets' inputs: job sheets, three kinds that are timed, each nearly as long as a sheet may be,
+//! and faulty ones.
+
+use super::plates::{any_middle_triangle, any_move};
+use super::{faulty_triangle, List};
+use crate::ordinary::plate::{LIFT, PARTS, PLACE, SHIFT, SLOTS, UNDO};
+use crate::ordinary::sheet::MOST_BYTES;
+use crate::random::Random;
+
+/// The highest ratio to the ordinary reader that the door should have.
+const GOAL: f64 = 1.5;
+/// The tag of a field, its two bytes of length and its body take so many bytes.
+const PLACE_BYTES: usize = 41;
+const LIFT_BYTES: usize = 4;
+const UNDO_BYTES: usize = 3;
+
+/// So many sheets with faults, each of fewer fields than this.
+const FAULTY_SHEETS: usize = 2_000;
+const FAULTY_FIELDS: usize = 120;
+/// Few enough slots and parts that fields often meet what earlier ones left.
+const FAULTY_SLOTS: usize = 8;
+const FAULTY_PARTS: u32 = 4;
+
+/// A sheet that is timed.
+pub struct Input {
+    pub name: &'static str,
+    pub sheet: Vec<u8>,
+    pub goal: f64,
+}
+
+pub fn timed() -> [Input; 3] {
+    let input = |name, sheet| Input {
+        name,
+        sheet,
+        goal: GOAL,
+    };
+    [
+        input("lifts and places in turn on a full plate", full_plate()),
+        input("places, all but the first 64 into filled slots", refused_places()),
+        input("undos of the empty plate", refused_undos()),
+    ]
+}
+
+fn full_plate() -> Vec<u8> {
+    let mut random = Random::new(13, 0);
+    let mut sheet = Vec::new();
+    for slot in 0..SLOTS {
+        put_middle_place(&mut random, &mut sheet, slot);
+    }
+    while sheet.len() + LIFT_BYTES + PLACE_BYTES <= MOST_BYTES {
+        let slot = random.index(SLOTS);
+        put_field(&mut sheet, LIFT, &[slot as u8]);
+        put_middle_place(&mut random, &mut sheet, slot);
+    }
+    sheet
+}
+
+fn refused_places() -> Vec<u8> {
+    let mut random = Random::new(14, 0);
+    let mut sheet = Vec::new();
+    for place in 0..MOST_BYTES / PLACE_BYTES {
+        put_middle_place(&mut random, &mut sheet, place % SLOTS);
+    }
+    sheet
+}
+
+fn refused_undos() -> Vec<u8> {
+    let mut sheet = Vec::new();
+    for _ in 0..MOST_BYTES / UNDO_BYTES {
+        put_field(&mut sheet, UNDO, &[]);
+    }
+    sheet
+}
+
+fn put_middle_place(random: &mut Random, sheet: &mut Vec<u8>, slot: usize) {
+    let triangle = any_middle_triangle(random);
+    put_place(sheet, slot, random.below(u64::from(PARTS)) as u8, &triangle);
+}
+
+fn put_place(sheet: &mut Vec<u8>, slot: usize, part: u8, triangle: &List) {
+    let mut body = vec![slot as u8, part];
+    body.extend(triangle.iter().flat_map(|number| number.to_le_bytes()));
+    put_field(sheet, PLACE, &body);
+}
+
+/// The tags are the numbers of the plate's calls.
+fn put_field(sheet: &mut Vec<u8>, tag: u32, body: &[u8]) {
+    sheet.push(tag as u8);
+    sheet.extend((body.len() as u16).to_le_bytes());
+    sheet.extend(body);
+}
+
+/// Short sheets of fields of all kinds, refused or not, many of them cut or with a byte changed, so that
+/// a tag, a length or a number is another; and two about the longest that is taken.
+pub fn faulty() -> Vec<Vec<u8>> {
+    let mut random = Random::new(15, 0);
+    let any_sheet = || faulty_sheet(&mut random);
+    let mut sheets: Vec<Vec<u8>> = std::iter::repeat_with(any_sheet).take(FAULTY_SHEETS).collect();
+    for longer in [0, 1] {
+        let mut sheet = refused_undos();
+        sheet.resize(MOST_BYTES + longer, UNDO as u8);
+        sheets.push(sheet);
+    }
+    sheets
+}
+
+fn faulty_sheet(random: &mut Random) -> Vec<u8> {
+    let mut sheet = Vec::new();
+    for _ in 0..random.index(FAULTY_FIELDS) {
+        put_any_field(random, &mut sheet);
+    }
+    if random.once_in(2) && !sheet.is_empty() {
+        let place = random.index(sheet.len());
+        sheet[place] = random.next() as u8;
+    }
+    if random.once_in(2) {
+        sheet.truncate(random.index(sheet.len() + 1));
+    }
+    sheet
+}
+
+fn put_any_field(random: &mut Random, sheet: &mut Vec<u8>) {
+    let slot = random.index(FAULTY_SLOTS);
+    let part = random.below(u64::from(FAULTY_PARTS)) as u8;
+    match random.pick(&[PLACE, PLACE, LIFT, SHIFT, UNDO]) {
+        PLACE => put_place(sheet, slot, part, &faulty_triangle(random)),
+        LIFT => put_field(sheet, LIFT, &[slot as u8]),
+        SHIFT => {
+            let mut body = vec![part];
+            let by = any_move(random, [2; 3]);
+            body.extend(by[..3].iter().flat_map(|step| step.to_le_bytes()));
+            put_field(sheet, SHIFT, &body);
+        }
+        _ => put_field(sheet, UNDO, &[]),
+    }
+}
