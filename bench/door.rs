@@ -7,7 +7,7 @@ use crate::ordinary::sheet::TEXT_BYTES;
 use crate::ordinary::Answer;
 use zimogrud::{zg_list, zg_pair, zg_plate};
 
-extern "C" {
+unsafe extern "C" {
     fn zg_sheet(sheet: *const u8, sheet_len: usize, text: *mut u8) -> usize;
 }
 

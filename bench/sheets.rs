@@ -7,8 +7,10 @@ use crate::ordinary::sheet::{answer, TEXT_BYTES};
 use crate::timing::{best_of, nanoseconds_each, say};
 use std::hint::black_box;
 
-/// As for the listings.
-const ROUNDS: usize = 15;
+/// A sheet is answered in milliseconds, and other work on the machine may disturb for longer than a few of them.
+const ROUNDS: usize = 60;
+/// A longer sheet is not printed.
+const LONG: usize = 1_000;
 /// What the bytes of the text are before the call. No line has such a byte.
 const UNWRITTEN: u8 = b'?';
 
@@ -78,8 +80,13 @@ fn difference(sheet: &[u8], length: usize, told: &[u8], text: &[u8]) -> String {
     let number = (0..lines)
         .find(|&number| line(told, number) != line(text, number))
         .unwrap_or(lines);
+    let told_sheet = if sheet.len() > LONG {
+        format!("of {} bytes", sheet.len())
+    } else {
+        format!("{sheet:?}")
+    };
     format!(
-        "the sheets differ:\n  sheet {sheet:?}\n  line {number}\n  door {length} bytes, {:?}\n  64-bit {} bytes, {:?}",
+        "the sheets differ:\n  sheet {told_sheet}\n  line {number}\n  door {length} bytes, {:?}\n  64-bit {} bytes, {:?}",
         line(told, number),
         text.len(),
         line(text, number),

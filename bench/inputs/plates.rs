@@ -129,11 +129,11 @@ fn any_call(random: &mut Random, style: &Style) -> Call {
     }
 }
 
-fn any_slot(random: &mut Random) -> u32 {
+pub fn any_slot(random: &mut Random) -> u32 {
     any_below(random, SLOTS as u32)
 }
 
-fn any_part(random: &mut Random) -> u32 {
+pub fn any_part(random: &mut Random) -> u32 {
     any_below(random, PARTS)
 }
 

@@ -1,7 +1,7 @@
 //! The sheets' inputs: job sheets, three kinds that are timed, each nearly as long as a sheet may be,
 //! and faulty ones.
 
-use super::plates::{any_middle_triangle, any_move};
+use super::plates::{any_middle_triangle, any_move, any_part, any_slot};
 use super::{faulty_triangle, List};
 use crate::ordinary::plate::{LIFT, PARTS, PLACE, SHIFT, SLOTS, UNDO};
 use crate::ordinary::sheet::MOST_BYTES;
@@ -9,7 +9,7 @@ use crate::random::Random;
 
 /// The highest ratio to the ordinary reader that the door should have.
 const GOAL: f64 = 1.5;
-/// The tag of a field, its two bytes of length and its body take so many bytes.
+/// A field takes so many bytes: its tag, two bytes of length, and its body.
 const PLACE_BYTES: usize = 41;
 const LIFT_BYTES: usize = 4;
 const UNDO_BYTES: usize = 3;
@@ -17,9 +17,8 @@ const UNDO_BYTES: usize = 3;
 /// So many sheets with faults, each of fewer fields than this.
 const FAULTY_SHEETS: usize = 2_000;
 const FAULTY_FIELDS: usize = 120;
-/// Few enough slots and parts that fields often meet what earlier ones left.
-const FAULTY_SLOTS: usize = 8;
-const FAULTY_PARTS: u32 = 4;
+/// The kinds of their fields, each as often as it is drawn.
+const KINDS: [u32; 6] = [PLACE, PLACE, PLACE, LIFT, SHIFT, UNDO];
 
 /// A sheet that is timed.
 pub struct Input {
@@ -44,12 +43,12 @@ pub fn timed() -> [Input; 3] {
 fn full_plate() -> Vec<u8> {
     let mut random = Random::new(13, 0);
     let mut sheet = Vec::new();
-    for slot in 0..SLOTS {
+    for slot in 0..SLOTS as u8 {
         put_middle_place(&mut random, &mut sheet, slot);
     }
     while sheet.len() + LIFT_BYTES + PLACE_BYTES <= MOST_BYTES {
-        let slot = random.index(SLOTS);
-        put_field(&mut sheet, LIFT, &[slot as u8]);
+        let slot = random.index(SLOTS) as u8;
+        put_field(&mut sheet, LIFT, &[slot]);
         put_middle_place(&mut random, &mut sheet, slot);
     }
     sheet
@@ -59,7 +58,7 @@ fn refused_places() -> Vec<u8> {
     let mut random = Random::new(14, 0);
     let mut sheet = Vec::new();
     for place in 0..MOST_BYTES / PLACE_BYTES {
-        put_middle_place(&mut random, &mut sheet, place % SLOTS);
+        put_middle_place(&mut random, &mut sheet, (place % SLOTS) as u8);
     }
     sheet
 }
@@ -72,15 +71,19 @@ fn refused_undos() -> Vec<u8> {
     sheet
 }
 
-fn put_middle_place(random: &mut Random, sheet: &mut Vec<u8>, slot: usize) {
+fn put_middle_place(random: &mut Random, sheet: &mut Vec<u8>, slot: u8) {
     let triangle = any_middle_triangle(random);
-    put_place(sheet, slot, random.below(u64::from(PARTS)) as u8, &triangle);
+    put_place(sheet, slot, random.index(PARTS as usize) as u8, &triangle);
 }
 
-fn put_place(sheet: &mut Vec<u8>, slot: usize, part: u8, triangle: &List) {
-    let mut body = vec![slot as u8, part];
-    body.extend(triangle.iter().flat_map(|number| number.to_le_bytes()));
-    put_field(sheet, PLACE, &body);
+fn put_place(sheet: &mut Vec<u8>, slot: u8, part: u8, triangle: &List) {
+    put_field(sheet, PLACE, &body_of(&[slot, part], triangle));
+}
+
+/// The numbers have their low byte first.
+fn body_of(about: &[u8], numbers: &[i32]) -> Vec<u8> {
+    let numbers = numbers.iter().flat_map(|number| number.to_le_bytes());
+    about.iter().copied().chain(numbers).collect()
 }
 
 /// The tags are the numbers of the plate's calls.
@@ -90,8 +93,8 @@ fn put_field(sheet: &mut Vec<u8>, tag: u32, body: &[u8]) {
     sheet.extend(body);
 }
 
-/// Short sheets of fields of all kinds, refused or not, many of them cut or with a byte changed, so that
-/// a tag, a length or a number is another; and two about the longest that is taken.
+/// Short sheets of fields of all kinds, refused or not, many of them cut or with a byte changed, be it of
+/// a tag, a length or a number; and two long ones, of which the second is one byte too long.
 pub fn faulty() -> Vec<Vec<u8>> {
     let mut random = Random::new(15, 0);
     let any_sheet = || faulty_sheet(&mut random);
@@ -120,17 +123,11 @@ fn faulty_sheet(random: &mut Random) -> Vec<u8> {
 }
 
 fn put_any_field(random: &mut Random, sheet: &mut Vec<u8>) {
-    let slot = random.index(FAULTY_SLOTS);
-    let part = random.below(u64::from(FAULTY_PARTS)) as u8;
-    match random.pick(&[PLACE, PLACE, LIFT, SHIFT, UNDO]) {
+    let (slot, part) = (any_slot(random) as u8, any_part(random) as u8);
+    match random.pick(&KINDS) {
         PLACE => put_place(sheet, slot, part, &faulty_triangle(random)),
-        LIFT => put_field(sheet, LIFT, &[slot as u8]),
-        SHIFT => {
-            let mut body = vec![part];
-            let by = any_move(random, [2; 3]);
-            body.extend(by[..3].iter().flat_map(|step| step.to_le_bytes()));
-            put_field(sheet, SHIFT, &body);
-        }
+        LIFT => put_field(sheet, LIFT, &[slot]),
+        SHIFT => put_field(sheet, SHIFT, &body_of(&[part], &any_move(random, [2; 3])[..3])),
         _ => put_field(sheet, UNDO, &[]),
     }
 }
