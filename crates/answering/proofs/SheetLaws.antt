@@ -11,7 +11,8 @@ use Rattle.plate.specs.Histories.{History, Call, outcome, next, run}
 use Rattle.plate.specs.Plates.{Stands, Answered, Promise}
 use Rattle.plate.specs.declared.calls.PlateAnswer.{PlateAnswer}
 use Rattle.keeping.specs.declared.plates.Plate.{Plate}
-use Rattle.fields.specs.Fields.{headOf, bodyOf, behind, callOf}
+use Rattle.fields.specs.Fields.{headOf, bodyOf, behind}
+use Rattle.asking.specs.Calls.{callOf}
 use Rattle.fields.specs.declared.heads.Head.the-variants.{Ends, Broken, Whole}
 use Rattle.fields.proofs.FieldLaws.{WholeField, whole-field, broken-number}
 use Rattle.lines.specs.Laid.{laid}
@@ -33,6 +34,25 @@ pub call-told : {plate : Plate} {c : Call} (r : PlateAnswer) → Promise plate c
     (numberOf (toldCheck (r .told)) ≡ numberOf (outcome (run before) c)) × Stands (run (c ∷ before)) (r .plate)
 unfolding run
 call-told {c} r kept before st = answered-as (outcome (run before) c) r (kept .kept before st) st
+
+-- A refused call leaves the plate.
+unchanged : {h : History} {plate : Plate} (o : Answer History) → (numberOf o ≡ 0 → ⊥) → Stands h plate → Stands (next h o) plate
+unchanged (served after) ahead st = absurd (ahead refl)
+unchanged (refused number side place) ahead st = st
+
+pub refused-put : {plate : Plate} {c : Call} {out after : List ℕ} {place next number : ℕ} → (number ≡ 0 → ⊥) →
+    ((before : List Call) → Stands (run before) plate → number ≡ numberOf (outcome (run before) c)) →
+    Put out place (lineOf number (plate .count)) next after → FieldPut plate c out place (record { plate = plate; end = next }) after
+unfolding run
+refused-put {plate} {c} {out} {place} ahead is put = record {
+  kept = λ before st.
+      let e = is before st in
+      record {
+        stands = unchanged (outcome (run before) c) (λ none. ahead (e ∙ none)) st;
+        place = put .place ∙ ap (λ (k : ℕ). place + length (lineOf k (plate .count))) e;
+        is = put .is ∙ ap (λ (k : ℕ). laid out place (lineOf k (plate .count))) e;
+      };
+}
 
 -- ---- parts of the sheet
 pub rest-at : (at : ℕ) (sheet : List ℕ) → take (length sheet - at) (drop at sheet) ≡ drop at sheet

@@ -9,7 +9,8 @@ use Rattle.checks.specs.Answers.{numberOf}
 use Rattle.slots.specs.Slots.{Clashes}
 use Rattle.slots.proofs.Clashing.{clashes-unique}
 use Rattle.plate.specs.Histories.{Call, slotsOf, outcome, run}
-use Rattle.fields.specs.Fields.{headOf, bodyOf, behind, callOf}
+use Rattle.fields.specs.Fields.{headOf, bodyOf, behind}
+use Rattle.asking.specs.Calls.{callOf}
 use Rattle.fields.specs.declared.heads.Head.{Head}
 use Rattle.fields.specs.declared.heads.Head.the-variants.{Ends, Broken, Whole}
 use Rattle.lines.specs.Lines.{lineOf}

@@ -6,7 +6,8 @@ use lib.ListN.{length, take, drop}
 use Rattle.checks.specs.Answers.{numberOf}
 use Rattle.slots.specs.Slots.{Clashes}
 use Rattle.plate.specs.Histories.{Call, slotsOf, outcome, run}
-use Rattle.fields.specs.Fields.{headOf, bodyOf, behind, callOf}
+use Rattle.fields.specs.Fields.{headOf, bodyOf, behind}
+use Rattle.asking.specs.Calls.{callOf}
 use Rattle.fields.specs.declared.heads.Head.the-variants.{Ends, Broken, Whole}
 use Rattle.lines.specs.Lines.{lineOf}
 

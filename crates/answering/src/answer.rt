@@ -1,4 +1,5 @@
 // A job sheet answered.
+use asking::field_checked;
 use checks::Checked;
 use fields::Head;
 use fields::head_of;
@@ -10,7 +11,8 @@ ghost use Prim.Native.Nat.{_+_, _≤_};
 ghost use lib.ListN.{length};
 ghost use Rattle.checks.specs.Answers.{numberOf};
 ghost use Rattle.checks.specs.Told.{toldCheck};
-ghost use Rattle.fields.specs.Fields.{tagFits, callOf};
+ghost use Rattle.fields.specs.Fields.{tagFits};
+ghost use Rattle.asking.specs.Calls.{callOf};
 ghost use Rattle.answering.specs.Sheets.{SheetText};
 ghost use Rattle.answering.specs.Steps.{Standing, FieldPut, LinesPut};
 
@@ -40,7 +42,7 @@ fn apply_field(plate: Plate, tag: u8, body: &[u8], out: &mut [u8], end: usize) -
     requires { ⌜ Standing plate × (tagFits tag (length (now body)) ≡ true) × (end + 8 ≤ length (now out)) ⌝ }
     ensures { λ r. ⌜ FieldPut plate (callOf tag (now (body .entry))) (now (out .entry)) end r (now (out .exit)) ⌝ }
 {
-    let answer = fields::apply(plate, tag, body);
+    let answer = asking::apply(plate, tag, body);
     let after = answer.plate;
     let told = answer.told;
     let next = put_line(out, end, number_of(told), after.count);
@@ -50,7 +52,8 @@ fn apply_field(plate: Plate, tag: u8, body: &[u8], out: &mut [u8], end: usize) -
     }
 }
 
-// The lines of a sheet of at most 65,536 bytes. There are at most 21,846 of them, of at most eight bytes each.
+// The lines of a sheet that is not too long. Whether a field is refused is asked of the plate's arrays, and the plate is passed only where it
+// changes: passing it takes longer than most refusals.
 fn write_lines(sheet: &[u8], out: &mut [u8]) -> usize
     requires { ⌜ (length (now sheet) ≤ 65536) × (174768 ≤ length (now out)) ⌝ }
     ensures { λ r. ⌜ LinesPut (now (sheet .entry)) (now (out .entry)) r (now (out .exit)) ⌝ }
@@ -65,10 +68,22 @@ fn write_lines(sheet: &[u8], out: &mut [u8]) -> usize
             Head::Whole(tag, size) => {
                 let body = at + 3;
                 let next = body + size;
-                let done = apply_field(plate, tag, &sheet[body..next], out, end);
-                let after = done.plate;
-                plate = after;
-                end = done.end;
+                let told = field_checked(
+                    &plate.coords[..],
+                    &plate.parts[..],
+                    plate.reach,
+                    tag,
+                    &sheet[body..next],
+                );
+                let number = number_of(told);
+                if number == 0 {
+                    let done = apply_field(plate, tag, &sheet[body..next], out, end);
+                    let after = done.plate;
+                    plate = after;
+                    end = done.end;
+                } else {
+                    end = put_line(out, end, number, plate.count);
+                }
                 at = next;
             }
         }

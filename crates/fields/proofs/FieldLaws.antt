@@ -1,27 +1,19 @@
 -- Tags and their lengths, and what the bytes that are left begin with, case by case. Assumes nothing.
-use mathlib.Core.Path.{_≡_, refl, sym, ap, _∙_, subst}
-use mathlib.Core.Bool.{Bool, true, false, not, cond}
+use mathlib.Core.Path.{_≡_, refl, sym, _∙_}
+use mathlib.Core.Bool.{Bool, true, false, cond}
 use mathlib.Core.List.{List}
 use Prim.Native.Nat.{ℕ, _+_, _-_, _≤_, _<_}
 use native.Mathlib.Omega.{arith}
 use borrow.Author.Tests.{eq-eqb, ne-eqb, eqb-true, lt-ltb, le-ltb, ltb-false}
 use lib.Dec.{eqb, ltb}
-use lib.ListN.{length, getD, drop}
-use Rattle.packing.specs.Reading.{numbersIn}
-use Rattle.slots.specs.Changes.{place, lift, shift}
-use Rattle.plate.specs.Histories.{Call, change, undo}
-use Rattle.fields.specs.Fields.{tagFits, sizeOf, headOf, shiftOf, callOf}
+use lib.ListN.{length, getD}
+use Rattle.fields.specs.Fields.{tagFits, sizeOf, headOf}
 use Rattle.fields.specs.declared.heads.Head.{Head}
 use Rattle.fields.specs.declared.heads.Head.the-variants.{Ends, Broken, Whole}
 
 -- ---- tags
-module _ {tag : ℕ} (not-1 : tag ≡ 1 → ⊥) (not-2 : tag ≡ 2 → ⊥) (not-3 : tag ≡ 3 → ⊥) where
-  pub undo-left : (body : List ℕ) → callOf tag body ≡ undo
-  unfolding callOf
-  undo-left body = rw (ne-eqb tag 1 not-1, ne-eqb tag 2 not-2, ne-eqb tag 3 not-3)
-
-  pub no-tag : (size : ℕ) → (tag ≡ 4 → ⊥) → false ≡ tagFits tag size
-  no-tag size not-4 = rw (ne-eqb tag 1 not-1, ne-eqb tag 2 not-2, ne-eqb tag 3 not-3, ne-eqb tag 4 not-4)
+pub no-tag : {tag : ℕ} → (tag ≡ 1 → ⊥) → (tag ≡ 2 → ⊥) → (tag ≡ 3 → ⊥) → (tag ≡ 4 → ⊥) → (size : ℕ) → false ≡ tagFits tag size
+no-tag {tag} not-1 not-2 not-3 not-4 size = rw (ne-eqb tag 1 not-1, ne-eqb tag 2 not-2, ne-eqb tag 3 not-3, ne-eqb tag 4 not-4)
 
 module _ {tag size : ℕ} (fits : tagFits tag size ≡ true) where
   pub place-size : tag ≡ 1 → size ≡ 38
@@ -32,19 +24,6 @@ module _ {tag size : ℕ} (fits : tagFits tag size ≡ true) where
 
   pub shift-size : tag ≡ 3 → size ≡ 13
   shift-size e = eqb-true size 13 (rw e at fits)
-
-module _ (body : List ℕ) where
-  pub place-call : {tag : ℕ} → tag ≡ 1 → change (place (getD body 0 0) (getD body 1 0) (numbersIn 9 (drop 2 body))) ≡ callOf tag body
-  unfolding callOf
-  place-call e = rw e
-
-  pub lift-call : {tag : ℕ} → tag ≡ 2 → change (lift (getD body 0 0)) ≡ callOf tag body
-  unfolding callOf
-  lift-call e = rw e
-
-  pub shift-call : {tag : ℕ} → tag ≡ 3 → shiftOf (getD body 0 0) (numbersIn 3 (drop 1 body)) ≡ callOf tag body
-  unfolding callOf
-  shift-call e = rw e
 
 -- ---- what the bytes begin with
 module _ (rest : List ℕ) where

@@ -1,15 +1,10 @@
 -- The fields of a job sheet (document 02, Q-2): a tag of one byte, a length of two, low byte first, and a body.
-use mathlib.Core.Path.{_≡_}
-use mathlib.Core.Bool.{Bool, true, false, cond}
-use mathlib.Core.List.{List, [], _∷_, _++_}
+use mathlib.Core.Bool.{Bool, false, cond}
+use mathlib.Core.List.{List}
 use Prim.Native.Nat.{ℕ, _+_, _-_}
 use lib.Dec.{eqb, ltb}
-use lib.IntN.{ℤ}
 use lib.ListN.{length, getD, take, drop}
-use Rattle.shape.specs.Points.{coord}
-use Rattle.slots.specs.Changes.{Change, place, lift, shift}
-use Rattle.plate.specs.Histories.{Call, change, undo}
-use Rattle.packing.specs.Reading.{lowFirst, numbersIn}
+use Rattle.packing.specs.Reading.{lowFirst}
 use Rattle.fields.specs.declared.heads.Head.{Head}
 use Rattle.fields.specs.declared.heads.Head.the-variants.{Ends, Broken, Whole}
 
@@ -36,14 +31,3 @@ bodyOf size rest = take size (drop 3 rest)
 
 abbrev pub behind : ℕ → List ℕ → List ℕ
 behind size rest = drop (3 + size) rest
-
--- The call that a field asks for. Place: slot, part, nine numbers. Lift: slot. Shift: part, three numbers.
-abbrev pub shiftOf : ℕ → List ℤ → Call
-shiftOf part d = change (shift part (coord 0 d) (coord 1 d) (coord 2 d))
-
-unfoldable pub callOf : (tag : ℕ) (body : List ℕ) → Call
-callOf tag body =
-    cond (eqb tag 1) (change (place (getD body 0 0) (getD body 1 0) (numbersIn 9 (drop 2 body))))
-    (cond (eqb tag 2) (change (lift (getD body 0 0)))
-    (cond (eqb tag 3) (shiftOf (getD body 0 0) (numbersIn 3 (drop 1 body)))
-    undo))

@@ -18,11 +18,11 @@ use Rattle.slots.specs.Changes.{Change, place, apply, replay}
 use Rattle.slots.specs.Arrays.{markOf, flat}
 use Rattle.keeping.specs.declared.plates.Plate.{Plate}
 use Rattle.keeping.proofs.Past.{long}
-use Rattle.plate.specs.Rules.{changeChecks}
+use Rattle.reasons.specs.Rules.{changeChecks}
 use Rattle.plate.specs.Histories.{History, slotsOf, Call, change, undo, made, takenBack, outcome, next, run}
 use Rattle.plate.specs.Plates.{Stands, Answered, Promise, MadeBy, fresh, after}
 use Rattle.plate.specs.declared.calls.PlateAnswer.{PlateAnswer}
-use Rattle.plate.proofs.Placing.{place-passes, slot-within}
+use Rattle.reasons.proofs.Placing.{place-passes, slot-within}
 use Rattle.plate.proofs.Outcomes.{change-outcome}
 
 -- ---- demand 3

@@ -16,9 +16,9 @@ use Rattle.slots.proofs.Sliding.{part-fits}
 use Rattle.slots.proofs.Arrays.{set-fits}
 use Rattle.slots.proofs.Grids.{free-fits}
 use Rattle.keeping.proofs.Past.{long}
-use Rattle.plate.specs.Rules.{partWithin, partPresent, partStays, changeChecks}
+use Rattle.reasons.specs.Rules.{partWithin, partPresent, partStays, changeChecks}
 use Rattle.plate.specs.Histories.{History, slotsOf, Call, change, undo, made, takenBack, outcome, next, run}
-use Rattle.plate.proofs.Placing.{not-above, place-passes, placed-ready}
+use Rattle.reasons.proofs.Placing.{not-above, place-passes, placed-ready}
 
 pub record Sound (h : History) : Type 0 where
   pub near : h .reach ≤ 32
@@ -35,7 +35,7 @@ shift-stays S q dx dy dz e =
     let after-7 = then-fine (partWithin 0 q) (partPresent 0 S q then partStays S q by) e .1 in
     not-above (length S) low 11 0 low (then-fine (partPresent 0 S q) (partStays S q by) after-7 .1)
 
-change-fits : (S : List Slot) (c : Change) → Fit S → changeChecks S c ≡ fine → Fit (apply S c)
+pub change-fits : (S : List Slot) (c : Change) → Fit S → changeChecks S c ≡ fine → Fit (apply S c)
 unfolding apply
 change-fits S (place s q numbers) fit e =
     set-fits S s (held q numbers) fit (placed-ready s q numbers (place-passes S s q numbers e .0))

@@ -1,7 +1,6 @@
 -- What the proofs of several functions share:
---   Placing       the checks of a place, and what they leave to be taken for granted
 --   Fits          what holds of every history that calls made
---   Outcomes      from what a plate shows to what its calls promise, and the order of the reasons
+--   Outcomes      from what a plate shows to what its calls promise
 --   PartsLaws     what the parts call promises, at each way out
 -- and the theorems that stand beside the contracts:
 --   Faithful      the arrays tell the slots
@@ -9,7 +8,6 @@
 --   Table         each reason exactly in the case that document 01 states
 --   Unique        no second answer and no second plate
 -- Assumes nothing.
-pub mod Placing
 pub mod Fits
 pub mod Outcomes
 pub mod PartsLaws

@@ -1,16 +1,16 @@
--- From what a plate shows to what its calls promise: the history that it stands for, the outcome of each call, and which reason for saying
--- no comes first. Assumes nothing.
+-- From what a plate shows to what its calls promise: the history that it stands for, and the outcome of each call. Assumes nothing.
 use mathlib.Core.Path.{_≡_, refl, sym, ap, subst, _∙_}
 use mathlib.Core.Bool.{Bool, true, false, cond}
 use mathlib.Core.List.{List, [], _∷_, _++_}
 use Prim.Native.Nat.{ℕ, zero, suc, min, _+_, _-_, _<_, _≤_}
 use native.Mathlib.Numerals.{add-one}
 use native.Mathlib.Omega.{arith}
-use borrow.Author.Tests.{lt-ltb, le-ltb}
+use lib.Dec.{eqb, eqb·suc-zero}
 use lib.IntN.{ℤ}
 use lib.ListN.{getD, length, take, drop}
 use Rattle.checks.specs.Answers.{Answer, served, refused, Check, fine, _then_}
 use Rattle.checks.specs.Told.{toldCheck}
+use Rattle.checks.proofs.AnswerLaws.{never-fine}
 use Rattle.slots.specs.Slots.{Slot, free, held, isFree, isOf, Clashes}
 use Rattle.slots.specs.Changes.{Change, place, lift, shift, thrice, apply, replay}
 use Rattle.slots.specs.Searches.{some, lowest, leaves}
@@ -23,11 +23,11 @@ use Rattle.keeping.specs.Steps.{Shows, Restored}
 use Rattle.keeping.specs.declared.plates.Plate.{Plate}
 use Rattle.keeping.specs.declared.journal.Entry.{Entry}
 use Rattle.keeping.proofs.Past.{unread, journal-push, journal-top, journal-pop}
-use Rattle.plate.specs.Rules.{slotFree, changeChecks}
+use Rattle.reasons.specs.Rules.{slotFree, changeChecks}
 use Rattle.plate.specs.Histories.{History, slotsOf, Call, change, undo, made, takenBack, outcome, run}
 use Rattle.plate.specs.Plates.{Stands, Answered}
 use Rattle.plate.specs.declared.calls.PlateAnswer.{PlateAnswer}
-use Rattle.plate.proofs.Placing.{placing, place-order}
+use Rattle.reasons.proofs.Placing.{placing, place-order}
 use Rattle.plate.proofs.Fits.{Sound, sound}
 
 -- ---- a plate that stands for a history shows its slots
@@ -85,6 +85,27 @@ change-made h c p r e told s =
     subst (λ (o : Answer History). Answered o p r) (sym (change-outcome h c e)) (told, made-stands h c (r .plate) s)
 
 -- ---- undo
+-- What the check of an undo finds, and the outcome by it.
+abbrev pub undoCheck : ℕ → Check
+undoCheck reach = cond (eqb reach 0) (refused 12 0 0) fine
+
+by-check : (past : List Change) (k : ℕ) → takenBack past k ≡ (undoCheck k then served (record { past = drop 1 past; reach = k - 1 }))
+by-check past zero = refl
+by-check past (suc k) =
+    let e : k ≡ suc k - 1 = omega arith in
+    let none : fine ≡ undoCheck (suc k) = rw (eqb·suc-zero k) in
+    (λ i. none i then served (record { past = drop 1 past; reach = e i }))
+
+pub undo-outcome : (h : History) {found : Check} → undoCheck (h .reach) ≡ found →
+    outcome h undo ≡ (found then served (record { past = drop 1 (h .past); reach = h .reach - 1 }))
+unfolding outcome
+undo-outcome h e =
+    by-check (h .past) (h .reach) ∙ ap (λ (found : Check). found then served (record { past = drop 1 (h .past); reach = h .reach - 1 })) e
+
+-- Where it finds nothing there is a change to take back.
+pub undo-ahead : (k : ℕ) → undoCheck k ≡ fine → k ≡ 0 → ⊥
+undo-ahead k e none = never-fine e (ap undoCheck none)
+
 -- The plate with its journal's latest entry taken out.
 abbrev popped : Plate → List Entry → Plate
 popped p j = record { coords = p .coords; parts = p .parts; journal = j; reach = p .reach - 1; count = p .count }
@@ -111,57 +132,3 @@ pub undo-made : (before : List Call) (p : Plate) (j : List Entry) (r : PlateAnsw
 unfolding outcome
 undo-made before p j r st ahead e back told =
     undone (run before .past) (run before .reach) p j r (sound before) st (λ none. ahead (st .reach ∙ none)) e back told
-
--- ---- the reasons in order: place
-free-yes : (x : Slot) → markOf x ≡ 0 → isFree x ≡ true
-free-yes free h = refl
-free-yes (held p numbers) h = absurd (omega arith)
-
-free-no : (x : Slot) → (markOf x ≡ 0 → ⊥) → isFree x ≡ false
-free-no free h = absurd (h refl)
-free-no (held p numbers) h = refl
-
--- Where all but the last check of a place refuse nothing.
-module _ (S : List Slot) (s q : ℕ) (numbers : List ℤ) (e : placing s q numbers ≡ fine) where
-  last-check : changeChecks S (place s q numbers) ≡ slotFree S s
-  last-check = place-order S s q numbers ∙ ap (λ (c : Check). c then slotFree S s) e
-
-  pub place-8 : (markOf (getD S s free) ≡ 0 → ⊥) → changeChecks S (place s q numbers) ≡ refused 8 0 s
-  place-8 h = last-check ∙ ap (λ (t : Bool). cond t fine (refused 8 0 s)) (free-no (getD S s free) h)
-
-  pub place-fine : markOf (getD S s free) ≡ 0 → changeChecks S (place s q numbers) ≡ fine
-  place-fine h = last-check ∙ ap (λ (t : Bool). cond t fine (refused 8 0 s)) (free-yes (getD S s free) h)
-
--- ---- lift
-module _ (S : List Slot) (s : ℕ) where
-  pub lift-6 : 63 < s → changeChecks S (lift s) ≡ refused 6 0 s
-  unfolding changeChecks
-  lift-6 a = rw (lt-ltb 63 s a)
-
-  pub lift-9 : s ≤ 63 → markOf (getD S s free) ≡ 0 → changeChecks S (lift s) ≡ refused 9 0 s
-  unfolding changeChecks
-  lift-9 a b = rw (le-ltb 63 s a, free-yes (getD S s free) b)
-
-  pub lift-fine : s ≤ 63 → (markOf (getD S s free) ≡ 0 → ⊥) → changeChecks S (lift s) ≡ fine
-  unfolding changeChecks
-  lift-fine a b = rw (le-ltb 63 s a, free-no (getD S s free) b)
-
--- ---- shift
-module _ (S : List Slot) (q : ℕ) (dx dy dz : ℤ) where
-  pub shift-7 : 15 < q → changeChecks S (shift q dx dy dz) ≡ refused 7 0 q
-  unfolding changeChecks
-  shift-7 a = rw (lt-ltb 15 q a)
-
-  pub shift-10 : q ≤ 15 → some (isOf q) S ≡ false → changeChecks S (shift q dx dy dz) ≡ refused 10 0 q
-  unfolding changeChecks
-  shift-10 a b = rw (le-ltb 15 q a, b)
-
-  pub shift-11 : q ≤ 15 → some (isOf q) S ≡ true → lowest (leaves q (thrice dx dy dz)) S < length S →
-      changeChecks S (shift q dx dy dz) ≡ refused 11 0 (lowest (leaves q (thrice dx dy dz)) S)
-  unfolding changeChecks
-  shift-11 a b c = rw (le-ltb 15 q a, b, lt-ltb (lowest (leaves q (thrice dx dy dz)) S) (length S) c)
-
-  pub shift-fine : q ≤ 15 → some (isOf q) S ≡ true → length S ≤ lowest (leaves q (thrice dx dy dz)) S →
-      changeChecks S (shift q dx dy dz) ≡ fine
-  unfolding changeChecks
-  shift-fine a b c = rw (le-ltb 15 q a, b, le-ltb (lowest (leaves q (thrice dx dy dz)) S) (length S) c)

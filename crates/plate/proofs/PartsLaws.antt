@@ -15,7 +15,7 @@ use Rattle.slots.specs.Counting.{hasMark, marksStrike}
 use Rattle.slots.specs.Showing.{Shown}
 use Rattle.slots.proofs.Clashing.{parts-says}
 use Rattle.keeping.specs.declared.plates.Plate.{Plate}
-use Rattle.plate.specs.Rules.{partsChecks}
+use Rattle.reasons.specs.Rules.{partsChecks}
 use Rattle.plate.specs.Histories.{slotsOf, run}
 use Rattle.plate.specs.Plates.{PartsRule, PartsPromise}
 use Rattle.plate.proofs.Outcomes.{shown, present}

@@ -25,12 +25,12 @@ use Rattle.slots.specs.Searches.{some, lowest, leaves}
 use Rattle.slots.specs.Arrays.{markOf}
 use Rattle.slots.proofs.Searching.{some-at, some-found, lowest-at, lowest-none, below-lowest}
 use Rattle.keeping.specs.declared.plates.Plate.{Plate}
-use Rattle.plate.specs.Rules.{slotFree, changeChecks, partsChecks}
+use Rattle.reasons.specs.Rules.{slotFree, changeChecks, partsChecks}
 use Rattle.plate.specs.Histories.{History, slotsOf, Call, change, undo, made, takenBack, outcome, run}
 use Rattle.plate.specs.Plates.{Stands, Answered, Promise, PartsPromise}
 use Rattle.plate.specs.declared.calls.PlateAnswer.{PlateAnswer}
-use Rattle.plate.proofs.Placing.{placing, place-order}
-use Rattle.plate.proofs.Outcomes.{place-8, place-fine, lift-6, lift-9, lift-fine, shift-7, shift-10, shift-11, shift-fine}
+use Rattle.reasons.proofs.Placing.{placing, place-order}
+use Rattle.reasons.proofs.Orders.{place-8, place-fine, lift-6, lift-9, lift-fine, shift-7, shift-10, shift-11, shift-fine}
 use Rattle.plate.proofs.Demand.{undo-refused}
 
 -- An answer gives this number, side and place.

@@ -15,7 +15,7 @@ use Rattle.predicate.proofs.Unique.{verdict-told}
 use Rattle.slots.specs.Slots.{Slot}
 use Rattle.slots.proofs.Clashing.{clashes-unique}
 use Rattle.keeping.specs.declared.plates.Plate.{Plate}
-use Rattle.plate.specs.Rules.{partsChecks}
+use Rattle.reasons.specs.Rules.{partsChecks}
 use Rattle.plate.specs.Histories.{History, Call, outcome, run}
 use Rattle.plate.specs.Plates.{Stands, Answered, Promise, CountPromise, PartsRule, PartsPromise}
 use Rattle.plate.specs.declared.calls.PlateAnswer.{PlateAnswer}

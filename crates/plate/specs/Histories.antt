@@ -5,7 +5,7 @@ use lib.ListN.{drop}
 use Rattle.checks.specs.Answers.{Answer, served, refused, _then_}
 use Rattle.slots.specs.Slots.{Slot}
 use Rattle.slots.specs.Changes.{Change, replay}
-use Rattle.plate.specs.Rules.{changeChecks}
+use Rattle.reasons.specs.Rules.{changeChecks}
 
 -- The changes that stand, the latest first, and the reach.
 pub record History : Type 0 where

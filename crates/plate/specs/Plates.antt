@@ -10,7 +10,7 @@ use Rattle.slots.specs.Slots.{Slot, Clashes, PartsClash}
 use Rattle.slots.specs.Arrays.{markOf, flat}
 use Rattle.keeping.specs.Journal.{journalOf}
 use Rattle.keeping.specs.declared.plates.Plate.{Plate}
-use Rattle.plate.specs.Rules.{partsChecks}
+use Rattle.reasons.specs.Rules.{partsChecks}
 use Rattle.plate.specs.Histories.{History, slotsOf, Call, outcome, run}
 use Rattle.plate.specs.declared.calls.PlateAnswer.{PlateAnswer}
 

@@ -7,7 +7,7 @@ use Rattle.checks.specs.Answers.{numberOf}
 use Rattle.checks.specs.Told.{toldCheck}
 use Rattle.plate.specs.Histories.{Call, outcome, run}
 use Rattle.plate.specs.Plates.{Stands}
-use Rattle.fields.specs.Fields.{callOf}
+use Rattle.asking.specs.Calls.{callOf}
 use Rattle.lines.specs.Laid.{laid}
 use Rattle.lines.specs.Lines.{lineOf}
 use Rattle.answering.proofs.Small.{small-count, small-number}

@@ -1,62 +1,63 @@
--- `plate::calls::lift` meets its contract: it is refused by 6, then by 9, and else the slot is emptied. Assumes nothing.
-use mathlib.Core.Path.{refl, sym, _∙_}
-use borrow.Author.Needs.{needs}
+-- `plate::calls::lift` meets its contract: where the checks find a reason the plate stays, and else the slot is emptied. Assumes nothing.
+use mathlib.Core.Path.{_≡_, refl, sym, ap, _∙_}
+use native.Mathlib.Omega.{arith}
+use Rattle.checks.specs.Answers.{fine}
+use Rattle.checks.specs.Told.{toldCheck}
 use Rattle.slots.specs.Slots.{free}
 use Rattle.slots.specs.Changes.{apply}
-use Rattle.slots.proofs.Arrays.{mark-is}
 use Rattle.slots.proofs.Grids.{free-fits}
 use Rattle.plate.specs.Histories.{run}
-use Rattle.plate.proofs.Outcomes.{shown, change-refused, change-made, lift-6, lift-9, lift-fine}
+use Rattle.plate.proofs.Outcomes.{shown, change-refused, change-made}
+use borrow.Author.Needs.{needs}
 use Rattle.plate.proofs.calls.lift.Statement.{statement}
 use Rattle.plate.proofs.calls.lift.Tie as tie
 
-no-requires : tie.Need-no-requires
-no-requires c κs = search needs
+lift-checked-requires : tie.Need-lift-checked-requires
+lift-checked-requires c κs = search needs
 
-returns : tie.Need-returns
-returns c = record {
-  kept = λ before st. change-refused (run before) _ _ (lift-6 _ _ (c .before .if1 .taken)) (c .no .ensures) refl;
-}
+enum-known-why : tie.Need-enum-known-why
+enum-known-why c = search needs
 
-element-copy-out-if2 : tie.Need-element-copy-out-if2
-element-copy-out-if2 c = search needs
+enum-told : tie.Need-enum-told
+enum-told c = search needs
 
-no-requires-2 : tie.Need-no-requires-2
-no-requires-2 c κs = search needs
-
-returns-2 : tie.Need-returns-2
-returns-2 c = record {
-  kept = λ before st.
-      let mark = mark-is (shown before st .slots) _ in
-      change-refused (run before) _ _ (lift-9 _ _ (c .before .before .before .if1 .left) (sym mark ∙ c .before .if2 .taken)) (c .no2 .ensures) refl;
-}
+-- Nothing was found.
+nothing-found : (c : tie.After-enum-told) → toldCheck (c .before .before .lift-checked .result) ≡ fine
+nothing-found c = ap toldCheck (c .enum-told .given .1)
 
 slice-aggregate-changed : tie.Need-slice-aggregate-changed
 slice-aggregate-changed c = search needs
 
 changed-requires : tie.Need-changed-requires
-changed-requires c κs = search needs
+changed-requires c κs =
+    let e = c .before in
+    let slot = e .before .before .lift-checked .ensures .slot-within (nothing-found e) in
+    (omega (arith, slot), search needs)
 
-returns-3 : tie.Need-returns-3
-unfolding apply
-returns-3 c = record {
+returns : tie.Need-returns
+returns c = record {
   kept = λ before st.
-      let h = shown before st in
+      let found = c .before .before .before .lift-checked .ensures .rule _ (st .parts) in
+      change-refused (run before) _ _ (sym found ∙ ap toldCheck (c .before .why .given .1)) refl refl;
+}
+
+returns-2 : tie.Need-returns-2
+unfolding apply
+returns-2 c = record {
+  kept = λ before st.
       let e = c .before .before in
-      change-made (run before) _ _ _
-      (lift-fine _ _ (e .before .before .if1 .left) (λ none. e .if2 .left (mark-is (h .slots) _ ∙ none))) refl
-      (c .changed .ensures .is free h free-fits refl refl);
+      let found = e .before .before .lift-checked .ensures .rule _ (st .parts) in
+      change-made (run before) _ _ _ (sym found ∙ nothing-found e) refl (c .changed .ensures .is free (shown before st) free-fits refl refl);
 }
 
 pub lift-spec : {M : Type 1} → statement M
 lift-spec =
     tie.close
     (tie.spec
-    no-requires
-    returns
-    element-copy-out-if2
-    no-requires-2
-    returns-2
+    lift-checked-requires
+    enum-known-why
+    enum-told
     slice-aggregate-changed
     changed-requires
-    returns-3)
+    returns
+    returns-2)

@@ -1,19 +1,26 @@
--- `plate::calls::undo` meets its contract: it is refused by 12 at reach 0, and else the latest change is taken back. Assumes nothing.
-use mathlib.Core.Path.{refl, sym, _∙_}
-use borrow.Author.Needs.{needs}
+-- `plate::calls::undo` meets its contract: where the check finds a reason the plate stays, and else the latest change is taken back. Assumes nothing.
+use mathlib.Core.Path.{_≡_, refl, sym, ap, _∙_}
+use Prim.Native.Nat.{_≤_}
+use native.Mathlib.Omega.{arith}
+use Rattle.checks.specs.Told.{toldCheck}
 use Rattle.plate.specs.Histories.{run}
-use Rattle.plate.proofs.Outcomes.{refusal, undo-made}
-use Rattle.plate.proofs.Demand.{undo-refused}
+use Rattle.plate.proofs.Outcomes.{refusal, undoCheck, undo-outcome, undo-ahead, undo-made}
+use borrow.Author.Needs.{needs}
 use Rattle.plate.proofs.calls.undo.Statement.{statement}
 use Rattle.plate.proofs.calls.undo.Tie as tie
 
-no-requires : tie.Need-no-requires
-no-requires c κs = search needs
+undo-checked-requires : tie.Need-undo-checked-requires
+undo-checked-requires c κs = search needs
 
-returns : tie.Need-returns
-returns c = record {
-  kept = λ before st. refusal _ (undo-refused (run before) (sym (st .reach) ∙ c .before .if1 .taken)) (c .no .ensures) refl;
-}
+enum-known-why : tie.Need-enum-known-why
+enum-known-why c = search needs
+
+enum-told : tie.Need-enum-told
+enum-told c = search needs
+
+-- There is a change to take back.
+ahead : (c : tie.After-enum-told) → c .before .before .before .args .plate .reach ≡ 0 → ⊥
+ahead c = undo-ahead _ (sym (c .before .before .undo-checked .ensures) ∙ ap toldCheck (c .enum-told .given .1))
 
 array-copy-out-latest : tie.Need-array-copy-out-latest
 array-copy-out-latest c = search needs
@@ -21,28 +28,37 @@ array-copy-out-latest c = search needs
 popped-requires : tie.Need-popped-requires
 popped-requires c κs = search needs
 
-sub-t14 : tie.Need-sub-t14
-sub-t14 c = search needs
+sub-t16 : tie.Need-sub-t16
+sub-t16 c = let some = ahead (c .before .before .before .before .before .before) in omega (arith, some)
 
 restored-requires : tie.Need-restored-requires
 restored-requires c κs = search needs
+
+returns : tie.Need-returns
+returns c = record {
+  kept = λ before st.
+      let u = c .before .before .before in
+      let found = ap undoCheck (sym (st .reach)) ∙ sym (u .undo-checked .ensures) ∙ ap toldCheck (c .before .why .given .1) in
+      refusal _ (undo-outcome (run before) found) refl refl;
+}
 
 returns-2 : tie.Need-returns-2
 returns-2 c = record {
   kept = λ before st.
       let p = c .before .before in
-      let ahead = p .before .before .before .before .before .if1 .left in
-      undo-made before _ (p .popped .result) _ st ahead (p .popped .ensures) (c .restored .ensures) refl;
+      undo-made before _ (p .popped .result) _ st (ahead (p .before .before .before .before .before)) (p .popped .ensures) (c .restored .ensures) refl;
 }
 
 pub undo-spec : {M : Type 1} → statement M
 undo-spec =
     tie.close
     (tie.spec
-    no-requires
-    returns
+    undo-checked-requires
+    enum-known-why
+    enum-told
     array-copy-out-latest
     popped-requires
-    sub-t14
+    sub-t16
     restored-requires
+    returns
     returns-2)

@@ -9,15 +9,17 @@ use lib.ListN.{length, length-append, take, drop}
 use lib.Seq.{take-at, drop-at, drop-drop}
 use mir.Syntax.{w32}
 use mir.Val.{SFits}
+use Rattle.shape.specs.Points.{coord}
 use Rattle.packing.specs.Reading.{lowFirst, numbersIn}
 use Rattle.packing.specs.Writing.{spread, bytesOf}
 use Rattle.packing.proofs.RoundTrip.{Words, none, one, spread-read, numbers-read, length-bytes}
 use Rattle.slots.specs.Changes.{place, lift, shift}
 use Rattle.plate.specs.Histories.{Call, change, undo}
-use Rattle.fields.specs.Fields.{tagFits, sizeOf, headOf, bodyOf, behind, callOf, shiftOf}
-use Rattle.fields.specs.Writing.{tagOf, bodyFor, fieldOf, written}
+use Rattle.fields.specs.Fields.{tagFits, sizeOf, headOf, bodyOf, behind}
 use Rattle.fields.specs.declared.heads.Head.the-variants.{Whole}
 use Rattle.fields.proofs.FieldLaws.{whole}
+use Rattle.asking.specs.Calls.{callOf}
+use Rattle.asking.specs.Writing.{tagOf, bodyFor, fieldOf, written}
 
 -- Bytes that begin with this field: its head, its body, and what follows it.
 pub record Begins (l : List ℕ) (tag : ℕ) (body rest : List ℕ) : Type 0 where
@@ -52,7 +54,7 @@ call-read (change (place slot part numbers)) (nine, words) =
     ap (λ (l : List ℤ). change (place slot part l))
     ((λ i. numbersIn (sym nine i) (sym (append-nil (bytesOf numbers)) i)) ∙ numbers-read words [])
 call-read (change (lift slot)) s = refl
-call-read (change (shift part dx dy dz)) words = ap (shiftOf part) (numbers-read words [])
+call-read (change (shift part dx dy dz)) words = ap (λ (by : List ℤ). change (shift part (coord 0 by) (coord 1 by) (coord 2 by))) (numbers-read words [])
 call-read undo s = refl
 
 -- and the field as its head, its body and what follows it.

@@ -1,12 +1,12 @@
--- `plate::calls::triangle_checked` meets its contract: 3 comes first, and the numbers are looked at where there are nine. Assumes nothing.
+-- `reasons::changes::triangle_checked` meets its contract: 3 comes first, and the numbers are looked at where there are nine. Assumes nothing.
 use mathlib.Core.Path.{sym, ap, _∙_}
 use borrow.Author.Needs.{needs}
 use Rattle.checks.specs.Rules.{refuses-flat, shapeChecks}
 use Rattle.checks.specs.Told.{toldCheck}
 use Rattle.checks.proofs.AnswerLaws.{stopped, passed-on}
 use Rattle.checks.proofs.CheckLaws.{fine-long}
-use Rattle.plate.proofs.calls.triangle_checked.Statement.{statement}
-use Rattle.plate.proofs.calls.triangle_checked.Tie as tie
+use Rattle.reasons.proofs.changes.triangle_checked.Statement.{statement}
+use Rattle.reasons.proofs.changes.triangle_checked.Tie as tie
 
 length-checked-requires : tie.Need-length-checked-requires
 length-checked-requires c κs = search needs

@@ -1,4 +1,4 @@
--- The field of a call: the way back from Fields.antt.
+-- The field of a call: the way back from Calls.antt, and from Fields.antt of crate `fields`.
 use mathlib.Core.List.{List, [], _∷_, _++_}
 use Prim.Native.Nat.{ℕ}
 use lib.ListN.{length}

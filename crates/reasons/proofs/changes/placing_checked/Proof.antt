@@ -1,8 +1,8 @@
--- `plate::calls::placing_checked` meets its contract: 6 comes first, then 7, and then the checks of the triangle. Assumes nothing.
+-- `reasons::changes::placing_checked` meets its contract: 6 comes first, then 7, and then the checks of the triangle. Assumes nothing.
 use borrow.Author.Needs.{needs}
 use borrow.Author.Tests.{lt-ltb, le-ltb}
-use Rattle.plate.proofs.calls.placing_checked.Statement.{statement}
-use Rattle.plate.proofs.calls.placing_checked.Tie as tie
+use Rattle.reasons.proofs.changes.placing_checked.Statement.{statement}
+use Rattle.reasons.proofs.changes.placing_checked.Tie as tie
 
 no-requires : tie.Need-no-requires
 no-requires c κs = search needs

@@ -1,14 +1,15 @@
--- `fields::applying::apply` meets its contract: each tag asks for its own call. Assumes nothing.
-use mathlib.Core.Path.{_≡_, sym, _∙_, subst}
+-- `asking::applying::apply` meets its contract: each tag asks for its own call. Assumes nothing.
+use mathlib.Core.Path.{_≡_, _∙_, subst}
 use native.Mathlib.Omega.{arith}
 use lib.ListN.{length}
 use Rattle.slots.specs.Changes.{lift}
 use Rattle.plate.specs.Histories.{Call, change}
 use Rattle.plate.specs.Plates.{Promise}
-use Rattle.fields.proofs.FieldLaws.{undo-left, place-size, lift-size, shift-size, place-call, lift-call, shift-call}
+use Rattle.fields.proofs.FieldLaws.{place-size, lift-size, shift-size}
+use Rattle.asking.proofs.CallLaws.{place-call, lift-call, shift-call, undo-call}
 use borrow.Author.Needs.{needs}
-use Rattle.fields.proofs.applying.apply.Statement.{statement}
-use Rattle.fields.proofs.applying.apply.Tie as tie
+use Rattle.asking.proofs.applying.apply.Statement.{statement}
+use Rattle.asking.proofs.applying.apply.Tie as tie
 
 apply-place-requires : tie.Need-apply-place-requires
 apply-place-requires c κs = place-size (c .before .before .pre) (c .match .keys1)
@@ -52,7 +53,7 @@ returns-4 c =
     let s = c .before .before .before in
     let no = c .before .match .rest in
     subst (λ (call : Call). Promise (s .args .plate) call (c .undo .result))
-    (sym (undo-left (no .0 .0 .1) (no .0 .1) (no .1) (s .args .body .now))) (c .undo .ensures)
+    (undo-call (s .args .body .now) (no .0 .0 .1) (no .0 .1) (no .1)) (c .undo .ensures)
 
 pub apply-spec : {M : Type 1} → statement M
 apply-spec =

@@ -5,16 +5,15 @@ use plate::Plate;
 use plate::PlateAnswer;
 ghost use mathlib.Core.Path.{_≡_};
 ghost use mathlib.Core.Bool.{true};
-ghost use lib.ListN.{length, getD, drop};
-ghost use Rattle.slots.specs.Changes.{place};
+ghost use lib.ListN.{length};
 ghost use Rattle.plate.specs.Histories.{change};
 ghost use Rattle.plate.specs.Plates.{Promise};
-ghost use Rattle.packing.specs.Reading.{numbersIn};
-ghost use Rattle.fields.specs.Fields.{tagFits, shiftOf, callOf};
+ghost use Rattle.fields.specs.Fields.{tagFits};
+ghost use Rattle.asking.specs.Calls.{placeIn, shiftIn, callOf};
 
 fn apply_place(plate: Plate, body: &[u8]) -> PlateAnswer
     requires { ⌜ length (now body) ≡ 38 ⌝ }
-    ensures { λ r. ⌜ Promise plate (change (place (getD (now (body .entry)) 0 0) (getD (now (body .entry)) 1 0) (numbersIn 9 (drop 2 (now (body .entry)))))) r ⌝ }
+    ensures { λ r. ⌜ Promise plate (change (placeIn (now (body .entry)))) r ⌝ }
 {
     let mut numbers = [0i32; 9];
     numbers_at(body, 2, &mut numbers[..]);
@@ -23,7 +22,7 @@ fn apply_place(plate: Plate, body: &[u8]) -> PlateAnswer
 
 fn apply_shift(plate: Plate, body: &[u8]) -> PlateAnswer
     requires { ⌜ length (now body) ≡ 13 ⌝ }
-    ensures { λ r. ⌜ Promise plate (shiftOf (getD (now (body .entry)) 0 0) (numbersIn 3 (drop 1 (now (body .entry))))) r ⌝ }
+    ensures { λ r. ⌜ Promise plate (change (shiftIn (now (body .entry)))) r ⌝ }
 {
     let mut by = [0i32; 3];
     numbers_at(body, 1, &mut by[..]);

@@ -1,17 +1,18 @@
--- `fields::applying::apply_shift` meets its contract: the call has the numbers of the body. Assumes nothing.
+-- `asking::applying::apply_shift` meets its contract: the call has the numbers of the body. Assumes nothing.
 use mathlib.Core.Path.{ap, _∙_, subst}
-use lib.IntN.{pos}
+use mathlib.Core.List.{List}
+use lib.IntN.{ℤ, pos}
 use lib.ListN.{getD}
 use mir.Syntax.{w32}
 use mir.Val.{SFits}
 use mir.Facts.{toZ-ofZ}
+use Rattle.shape.specs.Points.{coord}
 use Rattle.slots.specs.Changes.{shift}
 use Rattle.plate.specs.Histories.{Call, change}
 use Rattle.plate.specs.Plates.{Promise}
-use Rattle.fields.specs.Fields.{shiftOf}
 use borrow.Author.Needs.{needs}
-use Rattle.fields.proofs.applying.apply_shift.Statement.{statement}
-use Rattle.fields.proofs.applying.apply_shift.Tie as tie
+use Rattle.asking.proofs.applying.apply_shift.Statement.{statement}
+use Rattle.asking.proofs.applying.apply_shift.Tie as tie
 
 slice-aggregate-numbers-at : tie.Need-slice-aggregate-numbers-at
 slice-aggregate-numbers-at c = search needs
@@ -45,7 +46,7 @@ returns c =
     let fits-2 : SFits w32 (getD read 2 (pos 0)) = search needs in
     subst (λ (call : Call). Promise (s .args .plate) call (c .shift .result))
     ((λ i. change (shift (part .byte-at .ensures .0 i) (toZ-ofZ fits-0 i) (toZ-ofZ fits-1 i) (toZ-ofZ fits-2 i)))
-    ∙ ap (shiftOf (getD (s .args .body .now) 0 0)) (by .numbers-at .ensures))
+    ∙ ap (λ (d : List ℤ). change (shift (getD (s .args .body .now) 0 0) (coord 0 d) (coord 1 d) (coord 2 d))) (by .numbers-at .ensures))
     (c .shift .ensures)
 
 pub apply-shift-spec : {M : Type 1} → statement M

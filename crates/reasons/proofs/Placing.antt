@@ -16,7 +16,7 @@ use Rattle.checks.proofs.CheckLaws.{fine-long}
 use Rattle.checks.proofs.Passing.{passed}
 use Rattle.slots.specs.Slots.{Slot}
 use Rattle.slots.specs.Changes.{place}
-use Rattle.plate.specs.Rules.{slotWithin, partWithin, slotFree, changeChecks}
+use Rattle.reasons.specs.Rules.{slotWithin, partWithin, slotFree, changeChecks}
 
 -- A check that refuses a number above n refuses nothing: the number is not above n.
 pub not-above : (m n number side at : ℕ) → cond (ltb n m) (refused number side at) fine ≡ fine → m ≤ n

@@ -1,11 +1,11 @@
--- `fields::applying::apply_place` meets its contract: the call has the numbers of the body. Assumes nothing.
+-- `asking::applying::apply_place` meets its contract: the call has the numbers of the body. Assumes nothing.
 use mathlib.Core.Path.{subst}
 use Rattle.slots.specs.Changes.{place}
 use Rattle.plate.specs.Histories.{Call, change}
 use Rattle.plate.specs.Plates.{Promise}
 use borrow.Author.Needs.{needs}
-use Rattle.fields.proofs.applying.apply_place.Statement.{statement}
-use Rattle.fields.proofs.applying.apply_place.Tie as tie
+use Rattle.asking.proofs.applying.apply_place.Statement.{statement}
+use Rattle.asking.proofs.applying.apply_place.Tie as tie
 
 slice-aggregate-numbers-at : tie.Need-slice-aggregate-numbers-at
 slice-aggregate-numbers-at c = search needs
