@@ -1,8 +1,8 @@
 /*
  * Zimogrud for C and C++: the exact signs of points, the tests whether two shapes of the plane or of space have a point in
- * common, the listing of all pairs of triangles of two lists that have one, and runs of calls on a plate, as libdoor.a has
- * them. Where a number has a name, both are told, the number in brackets or beside the name; the names are defined before the
- * calls.
+ * common, the listing of all pairs of triangles of two lists that have one, and runs of calls on a plate, as numbers or as a
+ * job sheet, as libdoor.a has them. Where a number has a name, both are told, the number in brackets or beside the name; the
+ * names are defined before the calls.
  *
  * What goes in. Points are one list of whole numbers, point after point:
  *
@@ -14,12 +14,13 @@
  *     zg_list      two lists of triangles of space, ZG_TRIANGLE_LENGTH (9) numbers a triangle; each list has 0 to
  *                  ZG_LIST_TRIANGLES (1024) triangles, so up to ZG_LIST_LONGEST (9216) numbers
  *     zg_plate     calls on a plate: told below, at its declaration, with what it answers
+ *     zg_sheet     a job sheet, which is bytes: told below, at its declaration, with what it answers
  *
  * Every number should lie from -ZG_LIMIT to ZG_LIMIT (524288), ends included. Yet any numbers and any lengths may be given.
  * What can't be served is refused.
  *
- * What comes out, of all but zg_plate. ZG_ANSWER_LENGTH (4) numbers are written to the front of `answer`, and all after the
- * fourth stay:
+ * What comes out, of all but zg_plate and zg_sheet. ZG_ANSWER_LENGTH (4) numbers are written to the front of `answer`,
+ * and all after the fourth stay:
  *
  *     answer[ZG_AT_REFUSAL]   [0]   the refusal number, ZG_SERVED (0) where the call serves
  *     answer[ZG_AT_SIDE]      [1]   ZG_FIRST (0) for the first or only list, ZG_SECOND (1) for the second; 0 where the call
@@ -39,25 +40,26 @@
  *
  *     refusal                  given where                                                 place
  *     ZG_OFF_GRID          1   a number is below -524288 or above 524288                   its position in that list, from 0
- *     ZG_FLAT_SHAPE        2   a triangle is flat (zg_flat and ZG_CALL_PLACE)              0
+ *     ZG_FLAT_SHAPE        2   a triangle is flat (zg_flat, and a place on a plate)        0
  *     ZG_WRONG_LENGTH      3   a list has the wrong length                                 its length
  *     ZG_START_BEYOND_END  4   `start` is above the buffer's length (zg_list)              the buffer's length
  *     ZG_TOO_LITTLE_ROOM   5   there are fewer than two numbers a pair from `start` on     how many pairs there are
  *                              (zg_list)
  *
  * A triangle is flat where its corners lie on one line, equal corners included, and a segment where its ends are equal.
- * zg_segment, zg_pair and zg_list take a flat shape as the segment or the point that it is; only zg_flat and ZG_CALL_PLACE of
- * zg_plate refuse one. In zg_list a length is wrong where it is no multiple of nine or is above 9216. A position is that of the
- * number in its whole list, of whatever triangle. Refusals 4 and 5 have side 0.
+ * zg_segment, zg_pair and zg_list take a flat shape as the segment or the point that it is; only zg_flat and a place, of
+ * zg_plate or zg_sheet, refuse one. In zg_list a length is wrong where it is no multiple of nine or is above 9216. A position
+ * is that of the number in its whole list, of whatever triangle. Refusals 4 and 5 have side 0.
  *
  * Of several faults the first counts: 4; 3, first list before second; then 1 and then 2 of the first list, and of the second;
  * 5. Of several numbers of a list for which 1 could be given, that of the lowest position counts.
  *
  * What the caller owes, which no call can see for itself. Each pointer is not null, is aligned for its type and is valid for
- * as many numbers as the length beside it says, for reading and, at `answer`, `answers` and `buffer`, for writing; not null and
- * aligned also where the length is 0. These three overlap neither each other nor any of the other lists, and nothing else
- * writes to any of them during the call. zg_list takes some 230 kilobytes of stack, whatever its lists, and zg_plate some 50;
- * the other calls take little.
+ * as many numbers or bytes as the length beside it says, and `text` of zg_sheet for ZG_SHEET_TEXT_LENGTH (174768) bytes: for
+ * reading and, at `answer`, `answers`, `buffer` and `text`, for writing; not null and aligned also where the length is 0. Bytes
+ * need no alignment. These four overlap neither each other nor any of the other lists, and nothing else writes to any of them
+ * during the call. zg_list takes some 230 kilobytes of stack, whatever its lists, zg_plate some 50 and zg_sheet some 55; the
+ * other calls take little.
  */
 #ifndef ZIMOGRUD_H
 #define ZIMOGRUD_H
@@ -77,7 +79,7 @@
 #define ZG_LIST_TRIANGLES 1024
 #define ZG_LIST_LONGEST 9216
 
-/* What a call gives back, but for zg_plate. */
+/* What a call gives back, but for zg_plate and zg_sheet. */
 #define ZG_TOLD 0
 #define ZG_ANSWER_TOO_SHORT 1
 
@@ -92,7 +94,10 @@
 #define ZG_FIRST 0
 #define ZG_SECOND 1
 
-/* Refusals. zg_plate gives 1, 2 and 6 to 12, zg_flat 1 to 3, zg_list 1 and 3 to 5, the other calls 1 and 3. */
+/*
+ * Refusals. zg_plate gives 1, 2 and 6 to 12, zg_sheet these and 13 to 15, zg_flat 1 to 3, zg_list 1 and 3 to 5, the other calls
+ * 1 and 3.
+ */
 #define ZG_SERVED 0
 #define ZG_OFF_GRID 1
 #define ZG_FLAT_SHAPE 2
@@ -106,6 +111,9 @@
 #define ZG_PART_NOT_PLACED 10
 #define ZG_LEAVES_GRID 11
 #define ZG_NOTHING_TO_UNDO 12
+#define ZG_BAD_FIELD 13
+#define ZG_SHEET_CUT 14
+#define ZG_SHEET_TOO_LONG 15
 
 /* Values of zg_turn and zg_side: the signs -1, 0 and 1. */
 #define ZG_SIGN_MINUS 0
@@ -142,6 +150,21 @@
 #define ZG_CALL_AT_VALUE 5
 #define ZG_NO_CLASH 0
 #define ZG_CLASH 1
+
+/* A sheet: how many bytes it may have at most, and how many its answer's text may take. */
+#define ZG_SHEET_LONGEST 65536
+#define ZG_SHEET_TEXT_LENGTH 174768
+
+/* A field of a sheet: its tags, and how many bytes its head has, and its body by its tag. */
+#define ZG_TAG_PLACE 1
+#define ZG_TAG_LIFT 2
+#define ZG_TAG_SHIFT 3
+#define ZG_TAG_UNDO 4
+#define ZG_FIELD_HEAD_LENGTH 3
+#define ZG_PLACE_BODY_LENGTH 38
+#define ZG_LIFT_BODY_LENGTH 1
+#define ZG_SHIFT_BODY_LENGTH 13
+#define ZG_UNDO_BODY_LENGTH 0
 
 /* ---- The calls ---- */
 
@@ -222,6 +245,35 @@ uint32_t zg_list(const int32_t *a, size_t a_length, const int32_t *b, size_t b_l
  */
 uint64_t zg_plate(const uint32_t *calls, size_t calls_length, const int32_t *numbers, size_t numbers_length, uint64_t *answers,
     size_t answers_length);
+
+/*
+ * A job sheet, read on a plate that is empty at first, and answered as text. A sheet is fields, one after the other, of at most
+ * ZG_SHEET_LONGEST (65536) bytes in all. A field has a head of ZG_FIELD_HEAD_LENGTH (3) bytes, a one-byte tag and a two-byte
+ * length, low byte first, and a body of that length:
+ *
+ *     tag                 length                          body                                refused with, the first counts
+ *     ZG_TAG_PLACE   1    ZG_PLACE_BODY_LENGTH (38)       slot, part, the triangle's 9        6, 7, 1, 2, 8
+ *     ZG_TAG_LIFT    2    ZG_LIFT_BODY_LENGTH (1)         slot                                6, 9
+ *     ZG_TAG_SHIFT   3    ZG_SHIFT_BODY_LENGTH (13)       part, 3 numbers: dx, dy, dz         7, 10, 11
+ *     ZG_TAG_UNDO    4    ZG_UNDO_BODY_LENGTH (0)                                             12
+ *
+ * Slot and part are a byte each, the numbers signed ones of 32 bits, low byte first. The fields are applied in order, as the
+ * calls of zg_plate are. For each field the text has a line: the refusal number, a space, the count after it and a newline
+ * (byte 10), both numbers in decimal without sign or leading zeros. ZG_SERVED (0) is the number of a field that is served.
+ *
+ *     refusal                  given where
+ *     ZG_BAD_FIELD        13   the tag is unknown, or the length is wrong for the tag
+ *     ZG_SHEET_CUT        14   the sheet ends inside a field
+ *     ZG_SHEET_TOO_LONG   15   the sheet is above 65536 bytes
+ *
+ * At one field, a cut head is 14, then 13, then a cut body 14. After 13 or 14 one such line is written, with the count as it
+ * stands, and reading stops; earlier fields stand. Of a sheet that is too long nothing is applied, and its one line is 15 0. An
+ * empty sheet has the empty text.
+ *
+ * Result: how many bytes the text has. It is written to the front of `text`, with no zero byte behind it; all bytes after it
+ * stay as they are. `text` has to have room for ZG_SHEET_TEXT_LENGTH (174768) bytes, whatever the sheet.
+ */
+size_t zg_sheet(const uint8_t *sheet, size_t sheet_length, uint8_t *text);
 
 #ifdef __cplusplus
 }

@@ -52,4 +52,5 @@ unsafe extern "C" {
         answers: *mut u64,
         answers_len: usize,
     ) -> u64;
+    pub fn zg_sheet(sheet: *const u8, sheet_len: usize, text: *mut u8) -> usize;
 }

@@ -1,7 +1,7 @@
 /*
- * The names of include/zimogrud.h and the numbers of document 01 that they stand for, told once more: a name with another
- * number does not compile. Compiled as C and as C++, and never run; the calls below show that names and declarations go
- * together without a cast or a warning.
+ * The names of include/zimogrud.h and the numbers of documents 01 and 02 that they stand for, told once more: a name with
+ * another number does not compile. Compiled as C and as C++, and never run; the calls below show that names and declarations
+ * go together without a cast or a warning.
  */
 #include "zimogrud.h"
 
@@ -44,6 +44,9 @@ IS(ZG_SLOT_EMPTY, 9);
 IS(ZG_PART_NOT_PLACED, 10);
 IS(ZG_LEAVES_GRID, 11);
 IS(ZG_NOTHING_TO_UNDO, 12);
+IS(ZG_BAD_FIELD, 13);
+IS(ZG_SHEET_CUT, 14);
+IS(ZG_SHEET_TOO_LONG, 15);
 
 IS(ZG_SIGN_MINUS, -1 + 1);
 IS(ZG_SIGN_ZERO, 0 + 1);
@@ -68,8 +71,25 @@ IS(ZG_CALL_AT_VALUE, 5);
 IS(ZG_NO_CLASH, 0);
 IS(ZG_CLASH, 1);
 
+/*
+ * The most lines are of fields without a body, and one of a cut field. A refusal has at most two digits and a count four, for
+ * 64 slots have 2,016 pairs.
+ */
+IS(ZG_SHEET_LONGEST, 65536);
+IS(ZG_SHEET_TEXT_LENGTH, (65536 / 3 + 1) * (2 + 1 + 4 + 1));
+IS(ZG_TAG_PLACE, 1);
+IS(ZG_TAG_LIFT, 2);
+IS(ZG_TAG_SHIFT, 3);
+IS(ZG_TAG_UNDO, 4);
+IS(ZG_FIELD_HEAD_LENGTH, 1 + 2);
+IS(ZG_PLACE_BODY_LENGTH, 1 + 1 + 9 * 4);
+IS(ZG_LIFT_BODY_LENGTH, 1);
+IS(ZG_SHIFT_BODY_LENGTH, 1 + 3 * 4);
+IS(ZG_UNDO_BODY_LENGTH, 0);
+
 int turns_left(const int32_t *points);
 int parts_clash(const uint32_t *calls, const int32_t *numbers);
+int is_too_long(const uint8_t *sheet, size_t sheet_length);
 
 int turns_left(const int32_t *points)
 {
@@ -83,4 +103,10 @@ int parts_clash(const uint32_t *calls, const int32_t *numbers)
     uint64_t answers[ZG_CALL_ANSWER_LENGTH];
     return zg_plate(calls, ZG_CALL_LENGTH, numbers, ZG_CALL_COORDINATES, answers, ZG_CALL_ANSWER_LENGTH) == 1
         && calls[0] == ZG_CALL_PARTS && answers[ZG_CALL_AT_VALUE] == ZG_CLASH;
+}
+
+int is_too_long(const uint8_t *sheet, size_t sheet_length)
+{
+    static uint8_t text[ZG_SHEET_TEXT_LENGTH];
+    return zg_sheet(sheet, sheet_length, text) == sizeof "15 0\n" - 1 && sheet_length > ZG_SHEET_LONGEST;
 }

@@ -14,5 +14,7 @@ typedef __UINTPTR_TYPE__ uintptr_t;
 
 #define INT32_MAX 2147483647
 #define INT32_MIN (-INT32_MAX - 1)
+#define UINT8_MAX 255
+#define UINT32_MAX 4294967295U
 
 #endif

@@ -1,6 +1,6 @@
 /*
- * The functions on text that are used here, as the C library of the kit has them, for what is compiled with the kit's clang:
- * the kit has no headers.
+ * The functions on text and bytes that are used here, as the C library of the kit has them, for what is compiled with the
+ * kit's clang: the kit has no headers.
  */
 #ifndef TOOLS_STDIO_H
 #define TOOLS_STDIO_H
@@ -16,6 +16,8 @@ extern FILE *stderr;
 #define EOF (-1)
 
 int getchar(void);
+size_t fread(void *to, size_t size, size_t count, FILE *file);
+size_t fwrite(const void *from, size_t size, size_t count, FILE *file);
 int fputc(int character, FILE *file);
 int puts(const char *text);
 int printf(const char *format, ...);
