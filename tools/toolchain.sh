@@ -20,3 +20,15 @@ compile_bare() { # ARGUMENT...
     "$clang" --target=x86_64-unknown-linux-gnu -std=c11 -O2 -Wall -Wextra -Wpedantic -Werror -nostdinc \
         -isystem tools/headers -I include "$@"
 }
+
+# Sets what run_with_kit needs, once the kit is found: parts, the folder of its C library, and emulator, which runs x86-64 code
+# on another processor and is empty on x86-64.
+find_runner() {
+    parts=$kit/$own/toolchain/lib emulator=''
+    [ "$(uname -m)" = x86_64 ] || emulator=$(tool qemu-x86_64) || exit 2
+}
+
+# Runs an x86-64 program that is linked with the kit's C library, as rt runs those that it has proved.
+run_with_kit() { # PROGRAM
+    ${emulator:+"$emulator"} "$parts/ld-linux-x86-64.so.2" --library-path "$parts" "$1"
+}
