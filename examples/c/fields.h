@@ -11,19 +11,20 @@
 
 enum { NUMBER_LENGTH = 4 };
 
+/* What the text takes behind the word is told in words, as well. */
 struct kind {
     const char *word;
-    const char *content;
+    const char *taken;
     unsigned tag;
     size_t body_length;
     size_t byte_count;
 };
 
 static const struct kind kinds[] = {
-    {"place", "a slot, a part and the nine of a triangle", ZG_TAG_PLACE, ZG_PLACE_BODY_LENGTH, 2},
-    {"lift", "a slot", ZG_TAG_LIFT, ZG_LIFT_BODY_LENGTH, 1},
-    {"shift", "a part and the three of a move", ZG_TAG_SHIFT, ZG_SHIFT_BODY_LENGTH, 1},
-    {"undo", "none", ZG_TAG_UNDO, ZG_UNDO_BODY_LENGTH, 0},
+    {"place", "11 numbers (a slot, a part and a triangle's nine)", ZG_TAG_PLACE, ZG_PLACE_BODY_LENGTH, 2},
+    {"lift", "1 number (a slot)", ZG_TAG_LIFT, ZG_LIFT_BODY_LENGTH, 1},
+    {"shift", "4 numbers (a part and a move's three)", ZG_TAG_SHIFT, ZG_SHIFT_BODY_LENGTH, 1},
+    {"undo", "no number", ZG_TAG_UNDO, ZG_UNDO_BODY_LENGTH, 0},
 };
 enum { KIND_COUNT = sizeof kinds / sizeof kinds[0] };
 

@@ -57,8 +57,7 @@ static void read_numbers(const struct line *line, size_t place, const struct kin
             numbers[found] = number;
     }
     if (found != wanted) {
-        fprintf(stderr, "%s: line %lu: %s takes %zu number%s (%s), not %zu\n", line->program, line->number, kind->word, wanted,
-            wanted == 1 ? "" : "s", kind->content, found);
+        fprintf(stderr, "%s: line %lu: %s takes %s, not %zu\n", line->program, line->number, kind->word, kind->taken, found);
         exit(FAILED);
     }
 }

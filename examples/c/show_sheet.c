@@ -125,13 +125,14 @@ static void show_fault(const uint8_t *field, size_t left, unsigned refusal)
     if (refusal == ZG_SHEET_TOO_LONG)
         printf("the sheet has more than %d bytes", ZG_SHEET_LONGEST);
     else if (left < ZG_FIELD_HEAD_LENGTH)
-        printf("the sheet ends inside a field: its head has %zu of %d bytes", left, ZG_FIELD_HEAD_LENGTH);
+        printf("the sheet ends inside a field: the head has %zu of %d bytes", left, ZG_FIELD_HEAD_LENGTH);
     else if (kind == NULL)
         printf("tag %u is unknown", (unsigned)field[0]);
     else if (refusal == ZG_BAD_FIELD)
-        printf("a %s field has the length %u, not %zu", kind->word, (unsigned)number_at(field + 1, 2), kind->body_length);
+        printf("tag %u, %s, has the length %u, not %zu", kind->tag, kind->word, (unsigned)number_at(field + 1, 2),
+            kind->body_length);
     else
-        printf("the sheet ends inside a %s field: its body has %zu of %zu bytes", kind->word, left - ZG_FIELD_HEAD_LENGTH,
+        printf("the sheet ends inside a field: the body of %s has %zu of %zu bytes", kind->word, left - ZG_FIELD_HEAD_LENGTH,
             kind->body_length);
 }
 
