@@ -4,6 +4,7 @@ pub mod clashes;
 pub mod faults;
 pub mod listing;
 pub mod plate;
+pub mod sheet;
 
 use crate::geometry::axes::{self, Overlap};
 use crate::geometry::clipping::{self, Reach};

@@ -1,8 +1,10 @@
-//! The bench rows of document 01 that concern these calls, with their results as fixed numbers.
+//! The bench rows of document 01 that concern these calls, with their results as fixed numbers, and the example of
+//! document 02.
 //! Rows of triangles in the plane z = 0 are taken as flat pairs as well, with z left out. Row 12 goes on with wires and
 //! pins of many kinds.
 
 mod listings;
+pub mod sheets;
 pub mod stories;
 
 use crate::answers::{Answer, Outcome};

@@ -1,5 +1,6 @@
 //! The door: the functions of the library under check, and the room lent to them for an answer, for the answers of a
-//! story and for the pairs of a listing, filled with marks that show afterwards what was written and what was left.
+//! story, for the pairs of a listing and for the text of a sheet, filled with marks that show afterwards what was
+//! written and what was left.
 //!
 //! The library is x86-64 code. A program for x86-64 has it linked in; any other reaches it through
 //! a relay. Both take a batch of questions and give a batch of replies. The flag `--cfg linked`
@@ -27,9 +28,13 @@ pub const ANSWER_NUMBERS: usize = 4;
 /// Each call on the plate tells so many.
 pub const PLATE_ANSWER_NUMBERS: usize = 6;
 const LONGEST_ANSWER: usize = 8;
+/// The text of a sheet is lent so many bytes of room, whatever the sheet.
+pub const TEXT_BYTES: usize = 174_768;
+/// What the answer of a sheet holds afterwards, where the room behind the front of its text is as it was.
+const REST_STAYED: u64 = 1;
 
-/// All that is lent to be written. Only a listing gets the buffer; around the empty one of another call stand its
-/// margins all the same.
+/// All that is lent to be written. Only a listing gets the buffer, and a sheet as the front of its text's room; around
+/// the empty one of another call stand its margins all the same.
 #[derive(Clone, PartialEq, Eq)]
 pub struct Room {
     pub answer: Lent<u64>,
@@ -78,16 +83,22 @@ pub enum Function {
     Pair,
     List,
     Plate,
+    Sheet,
 }
 
 /// A function with the lists and the room to lend it. `Turn` and `Side` take no second list. `Plate` takes the numbers
 /// of its calls as the first list, unsigned ones bit for bit, its coordinates as the second, and its answers as the
 /// answer.
+///
+/// `Sheet` takes its bytes as the first list, packed, and no second one. Its text's room is so long that the door has
+/// it, with marks of its own, and looks itself whether they stay; the buffer is the front of that room, packed, which
+/// holds the text. The answer isn't lent: its one number is the seed of the door's marks, and comes back as 1 where all
+/// of these stayed and as 0 elsewhere.
 pub struct Question<'a> {
     pub function: Function,
     pub first: &'a [i32],
     pub second: &'a [i32],
-    /// Where the pairs of a listing start in the buffer; only `List` takes it.
+    /// Where the pairs of a listing start in the buffer, or how many bytes a sheet has; other calls don't take it.
     pub start: u64,
     pub room: &'a Room,
 }
@@ -125,4 +136,28 @@ pub fn wanted_plate_reply(told: &[PlateAnswer], room: &Room) -> Reply {
         room,
         lists_stayed: true,
     }
+}
+
+/// What must be seen after a sheet with this room, given the right text.
+pub fn wanted_sheet_reply(text: &[u8], room: &Room) -> Reply {
+    let mut room = room.clone();
+    let mut front = unpacked(room.buffer.part());
+    front[..text.len()].copy_from_slice(text);
+    room.buffer.write(0, packed(&front).into_iter());
+    room.answer.write(0, std::iter::once(REST_STAYED));
+    Reply {
+        result: text.len() as u64,
+        room,
+        lists_stayed: true,
+    }
+}
+
+/// Bytes as numbers, four to one, the lowest first; the last number is filled up with 0.
+pub fn packed(bytes: &[u8]) -> Vec<u32> {
+    let number = |four: &[u8]| u32::from_le_bytes(std::array::from_fn(|i| four.get(i).copied().unwrap_or(0)));
+    bytes.chunks(4).map(number).collect()
+}
+
+pub fn unpacked(numbers: &[u32]) -> Vec<u8> {
+    numbers.iter().flat_map(|number| number.to_le_bytes()).collect()
 }

@@ -1,11 +1,14 @@
 //! Random inputs of many kinds: tiny grids where special cases abound, the whole grid and its ends,
-//! shapes that touch or nearly do, flat shapes of every kind, every kind of bad list, and stories of plates.
+//! shapes that touch or nearly do, flat shapes of every kind, every kind of bad list, stories of plates, and job
+//! sheets, good and broken.
 
+mod breaks;
 mod faulty;
 mod listing;
 mod plane;
 mod pools;
 mod scenes;
+mod sheets;
 mod space;
 mod stories;
 mod teller;
@@ -14,6 +17,7 @@ mod thin;
 pub use faulty::LONGEST_BAD_LIST;
 pub use listing::{any_listing, tiny_listing};
 pub use plane::{any_flat_pair, any_turn, tiny_flat_pair};
+pub use sheets::{any_sheet, tiny_sheet};
 pub use space::{any_pair, any_segment, any_side, tiny_pair, tiny_segment};
 pub use stories::{any_story, tiny_story};
 

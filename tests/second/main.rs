@@ -1,6 +1,6 @@
-//! The second program: puts the bench rows of document 01, many random inputs and many random stories of a plate to the
-//! library under check, finds every answer by means of its own, and compares. With `--text` it asks nothing, but writes
-//! pairs and their answers as text. `tests/second/run` says how it is called.
+//! The second program: puts the bench rows of document 01, many random inputs, many random stories of a plate and many
+//! random job sheets to the library under check, finds every answer by means of its own, and compares. With `--text` it
+//! asks nothing, but writes pairs and their answers as text. `tests/second/run` says how it is called.
 //!
 //! Exit status: 0 no disagreement; 1 a disagreement, a failure of the calls, or a case never met;
 //! 2 bad arguments, or no way to reach the library.
@@ -13,6 +13,8 @@ mod geometry;
 mod inputs;
 mod plates;
 mod random;
+mod sheet;
+mod sheets;
 mod story;
 mod tally;
 mod text;
@@ -24,6 +26,7 @@ use std::io::Write;
 use std::process::ExitCode;
 use std::time::{SystemTime, UNIX_EPOCH};
 use tally::plates::PlateTally;
+use tally::sheets::SheetTally;
 use tally::{Cases, Tally};
 
 const DEFAULT_PAIRS: u64 = 1_000_000;
@@ -41,12 +44,18 @@ const STORIES_THAT_MEET_ALL_CASES: u64 = 500;
 /// The same of the finer cases, of which slot, part or coordinate it was and which fault hid which: the rarest comes up
 /// some thirty times in so many.
 const STORIES_THAT_MEET_FINER_CASES: u64 = 2_000;
+/// A sheet has many fields, so there is one for so many pairs of each kind.
+const PAIRS_TO_A_SHEET: u64 = 100;
+/// From this many sheets on, a case of theirs that never came up is a fault of the sheets: the rarest comes up some
+/// fifteen times in so many.
+const SHEETS_THAT_MEET_ALL_CASES: u64 = 10_000;
 /// This many inputs go to the door at once.
 const BATCH: u64 = 1_000;
 
 struct Settings {
     pairs: u64,
     stories: u64,
+    sheets: u64,
     seed: u64,
     tiny: bool,
     /// Where to write pairs as text, instead of comparing.
@@ -73,9 +82,13 @@ fn main() -> ExitCode {
     };
     let tiny = if settings.tiny { " --tiny" } else { "" };
     let Settings {
-        pairs, stories, seed, ..
+        pairs,
+        stories,
+        sheets,
+        seed,
+        ..
     } = settings;
-    let run = format!("--pairs {pairs} --stories {stories} --seed {seed}{tiny}");
+    let run = format!("--pairs {pairs} --stories {stories} --sheets {sheets} --seed {seed}{tiny}");
     say(&format!("second: {run}"));
     match compare_all(door, &settings) {
         Ok(last_line) => {
@@ -109,24 +122,27 @@ fn say(line: &str) {
 }
 
 fn read_arguments(mut arguments: impl Iterator<Item = String>) -> Result<Settings, String> {
-    let (mut pairs, mut stories, mut seed, mut tiny, mut text) = (None, None, None, false, None);
+    let (mut pairs, mut stories, mut sheets) = (None, None, None);
+    let (mut seed, mut tiny, mut text) = (None, false, None);
     while let Some(name) = arguments.next() {
         match name.as_str() {
             "--pairs" => pairs = Some(read_number(&name, arguments.next())?),
             "--stories" => stories = Some(read_number(&name, arguments.next())?),
+            "--sheets" => sheets = Some(read_number(&name, arguments.next())?),
             "--seed" => seed = Some(read_number(&name, arguments.next())?),
             "--tiny" => tiny = true,
             "--text" => text = Some(arguments.next().ok_or_else(|| format!("{name} needs a name"))?),
             _ => return Err(format!("unknown argument {name:?}")),
         }
     }
-    if pairs == Some(0) || stories == Some(0) {
-        return Err("--pairs and --stories must be at least 1".to_string());
+    if [pairs, stories, sheets].contains(&Some(0)) {
+        return Err("--pairs, --stories and --sheets must be at least 1".to_string());
     }
     let pairs = pairs.unwrap_or(DEFAULT_PAIRS);
     Ok(Settings {
         pairs,
         stories: stories.unwrap_or(pairs.div_ceil(PAIRS_TO_A_STORY)),
+        sheets: sheets.unwrap_or(pairs.div_ceil(PAIRS_TO_A_SHEET)),
         seed: seed.unwrap_or_else(seed_from_clock),
         tiny,
         text,
@@ -188,23 +204,28 @@ fn any_pair(settings: &Settings) -> fn(&mut Random) -> Call {
 fn compare_all(mut door: Door, settings: &Settings) -> Result<String, String> {
     let rows = compare_bench(&mut door, settings.seed)?;
     let stories = plates::compare_stored(&mut door, settings.seed)?;
-    say(&format!("bench: {rows} rows and {stories} stories compared"));
+    let sheets = sheets::compare_stored(&mut door, settings.seed)?;
+    say(&format!(
+        "bench: {rows} rows, {stories} stories and {sheets} sheets compared"
+    ));
     let mut tallies = Vec::new();
     for (stream, plan) in (1..).zip(plans(settings)) {
         tallies.push(compare_many(&mut door, settings.seed, stream, plan)?);
     }
     let plates = compare_stories(&mut door, settings)?;
+    let sheets = compare_sheets(&mut door, settings)?;
     door.close()?;
     tallies.iter().for_each(|tally| say(&tally.line()));
     say(&plates.line());
-    let missed = missed_cases(settings, &tallies, &plates);
+    say(&sheets.line());
+    let missed = missed_cases(settings, &tallies, &plates, &sheets);
     if !missed.is_empty() {
         return Err(format!("cases never met: {}", missed.join("; ")));
     }
     let tiny = if settings.tiny { "tiny " } else { "" };
     let inputs = tallies.iter().map(|tally| (tally.compared, tally.inputs()));
     let counts: Vec<String> = inputs
-        .chain([(plates.stories, "stories")])
+        .chain([(plates.stories, "stories"), (sheets.sheets, "sheets")])
         .map(|(compared, inputs)| format!("{compared} {tiny}{inputs}"))
         .collect();
     Ok(format!("{}: no disagreement", counts.join(", ")))
@@ -219,8 +240,18 @@ fn compare_stories(door: &mut Door, settings: &Settings) -> Result<PlateTally, S
     plates::compare_many(door, settings.seed, settings.stories, any_story)
 }
 
-/// The cases that never came up, of a run that is large enough for them. Tiny stories lack some by their nature.
-fn missed_cases(settings: &Settings, tallies: &[Tally], plates: &PlateTally) -> Vec<String> {
+fn compare_sheets(door: &mut Door, settings: &Settings) -> Result<SheetTally, String> {
+    let any_sheet = if settings.tiny {
+        inputs::tiny_sheet
+    } else {
+        inputs::any_sheet
+    };
+    sheets::compare_many(door, settings.seed, settings.sheets, any_sheet)
+}
+
+/// The cases that never came up, of a run that is large enough for them. Tiny stories and sheets lack some by their
+/// nature.
+fn missed_cases(settings: &Settings, tallies: &[Tally], plates: &PlateTally, sheets: &SheetTally) -> Vec<String> {
     let mut missed = Vec::new();
     if settings.pairs >= PAIRS_THAT_MEET_ALL_CASES {
         let with_finer = settings.pairs >= PAIRS_THAT_MEET_FINER_CASES;
@@ -229,6 +260,9 @@ fn missed_cases(settings: &Settings, tallies: &[Tally], plates: &PlateTally) -> 
     }
     if settings.stories >= STORIES_THAT_MEET_ALL_CASES && !settings.tiny {
         missed.extend(plates.missed(settings.stories >= STORIES_THAT_MEET_FINER_CASES));
+    }
+    if settings.sheets >= SHEETS_THAT_MEET_ALL_CASES && !settings.tiny {
+        missed.extend(sheets.missed());
     }
     missed
 }

@@ -7,19 +7,26 @@
  * A request is one frame. Its reply is the same frame, of the same size, as the call left it. All numbers in it are
  * little-endian:
  *
- *     bytes 0 to 7     the mark of a frame, 0x7a670003
+ *     bytes 0 to 7     the mark of a frame, 0x7a670004
  *     bytes 8 to 15    in a reply the result; in a request any number
- *     bytes 16 to 19   the call: 1 zg_turn, 2 zg_side, 3 zg_flat, 4 zg_segment, 5 zg_pair, 6 zg_list, 7 zg_plate
+ *     bytes 16 to 19   the call: 1 zg_turn, 2 zg_side, 3 zg_flat, 4 zg_segment, 5 zg_pair, 6 zg_list, 7 zg_plate,
+ *                      8 zg_sheet
  *     bytes 20 to 23   how many numbers each margin has
- *     bytes 24 to 27   how many numbers the first list has; for zg_plate it holds the calls, bit for bit
- *     bytes 28 to 31   how many numbers the second list has; 0 for zg_turn and zg_side
- *     bytes 32 to 35   how many numbers the lent answer has, or the lent answers of zg_plate
- *     bytes 36 to 39   how many numbers the lent buffer has; 0 for all but zg_list
- *     bytes 40 to 47   the start place, for zg_list only
+ *     bytes 24 to 27   how many numbers the first list has; for zg_plate it holds the calls, bit for bit, and for
+ *                      zg_sheet the sheet, four bytes to a number
+ *     bytes 28 to 31   how many numbers the second list has; 0 for zg_turn, zg_side and zg_sheet
+ *     bytes 32 to 35   how many numbers the lent answer has, or the lent answers of zg_plate; 1 for zg_sheet
+ *     bytes 36 to 39   how many numbers the lent buffer has; 0 for all but zg_list and zg_sheet
+ *     bytes 40 to 47   the start place, for zg_list; how many bytes the sheet has, for zg_sheet
  *     then             a margin, the lent answer and a margin, unsigned 64-bit numbers
  *     then             a margin, the lent buffer and a margin, unsigned 32-bit numbers
  *     then             the first list and then the second, signed 32-bit numbers
  *     then             four bytes of 0 where the frame's size would not be a multiple of eight without them
+ *
+ * The room that zg_sheet writes its text to is too long to be sent each time. It is kept here, between two margins, all
+ * of it filled with marks. The frame's buffer is the front of that room, four bytes to a number: it is put there before
+ * the call and taken from there after it. The frame's answer is not lent: its number is the seed of the marks, and in
+ * the reply 1 where all marks but those of the front stayed, 0 elsewhere.
  *
  * All whole requests that have arrived are answered before more are waited for. The sender must take replies while it
  * sends requests.
@@ -33,13 +40,18 @@
 
 #include <string.h>
 
-#define MARK 0x7a670003u
+#define MARK 0x7a670004u
 
-enum { TURN = 1, SIDE = 2, FLAT = 3, SEGMENT = 4, PAIR = 5, LIST = 6, PLATE = 7 };
+enum { TURN = 1, SIDE = 2, FLAT = 3, SEGMENT = 4, PAIR = 5, LIST = 6, PLATE = 7, SHEET = 8 };
 /* A listing has 2^20 pairs at most, of two numbers each. The block takes a frame with the longest of everything. */
 enum { LONGEST_LIST = 1 << 14, LONGEST_MARGIN = 64, LONGEST_BUFFER = (1 << 21) + (1 << 14) };
 enum { LONGEST_ANSWER = 64, LONGEST_PLATE_ANSWERS = 1 << 14 };
+enum { LONGEST_SHEET = 1 << 20 };
 enum { BLOCK_BYTES = 1 << 24 };
+/* The room for a sheet's text, and the marks on either side of it, eight bytes each. */
+enum { TEXT_BYTES = 174768, TEXT_MARGIN = 64, TEXT_MARKS = TEXT_MARGIN + TEXT_BYTES / 8 + TEXT_MARGIN };
+
+size_t zg_sheet(const uint8_t *sheet, size_t sheet_length, uint8_t *text);
 
 struct head {
     uint64_t mark;
@@ -58,14 +70,26 @@ static _Alignas(8) unsigned char block[BLOCK_BYTES];
 
 /* ---- Frames ---- */
 
-static int is_well_formed(const struct head *head)
+static int is_well_formed_sheet(const struct head *head)
+{
+    return head->first_length <= LONGEST_SHEET && head->start <= sizeof(int32_t) * head->first_length
+        && head->second_length == 0 && head->answer_length == 1 && head->buffer_length <= TEXT_BYTES / sizeof(uint32_t);
+}
+
+static int is_well_formed_call(const struct head *head)
 {
     uint32_t longest_second = head->call >= FLAT ? LONGEST_LIST : 0;
     uint32_t longest_buffer = head->call == LIST ? LONGEST_BUFFER : 0;
     uint32_t longest_answer = head->call == PLATE ? LONGEST_PLATE_ANSWERS : LONGEST_ANSWER;
-    return head->mark == MARK && head->call >= TURN && head->call <= PLATE && head->margin <= LONGEST_MARGIN
-        && head->first_length <= LONGEST_LIST && head->second_length <= longest_second
-        && head->answer_length <= longest_answer && head->buffer_length <= longest_buffer;
+    return head->call >= TURN && head->call <= PLATE && head->first_length <= LONGEST_LIST
+        && head->second_length <= longest_second && head->answer_length <= longest_answer
+        && head->buffer_length <= longest_buffer;
+}
+
+static int is_well_formed(const struct head *head)
+{
+    return head->mark == MARK && head->margin <= LONGEST_MARGIN
+        && (head->call == SHEET ? is_well_formed_sheet(head) : is_well_formed_call(head));
 }
 
 /* How many numbers a lent run has with its margins. */
@@ -148,6 +172,53 @@ static uint64_t call_with_loans(const struct head *head, const struct runs *own)
     return result;
 }
 
+/* ---- Sheets ---- */
+
+/* The room for a text with its margins. All marks stand in it whenever no sheet is read, so that they need not be made
+ * anew for each. */
+static uint64_t text_room[TEXT_MARKS];
+static uint64_t marks[TEXT_MARKS];
+
+/* No two of one seed are alike, nor the first ones of two seeds. */
+static uint64_t mark_at(uint64_t seed, size_t place)
+{
+    return (seed + place) * 0x9e3779b97f4a7c15u;
+}
+
+static void make_marks(uint64_t seed)
+{
+    for (size_t k = 0; k < TEXT_MARKS; k++)
+        text_room[k] = marks[k] = mark_at(seed, k);
+}
+
+static int marks_stayed(void)
+{
+    uint64_t difference = 0;
+    for (size_t k = 0; k < TEXT_MARKS; k++)
+        difference |= text_room[k] ^ marks[k];
+    return difference == 0;
+}
+
+static uint64_t read_sheet(const struct head *head, const struct runs *own)
+{
+    size_t front_bytes = sizeof *own->buffer * head->buffer_length, sheet_bytes = head->start;
+    uint64_t *text = text_room + TEXT_MARGIN, seed = own->answer[0];
+    if (marks[0] != mark_at(seed, 0))
+        make_marks(seed);
+    memcpy(text, own->buffer, front_bytes);
+    uint8_t *lent_sheet = lend(FIRST_LOAN, own->first, sheet_bytes);
+    uint8_t *lent_text = lend(BUFFER_LOAN, text, TEXT_BYTES);
+    uint64_t result = zg_sheet(lent_sheet, sheet_bytes, lent_text);
+    take_back(lent_sheet, own->first, sheet_bytes);
+    take_back(lent_text, text, TEXT_BYTES);
+    memcpy(own->buffer, text, front_bytes);
+    memcpy(text, marks + TEXT_MARGIN, front_bytes);
+    own->answer[0] = marks_stayed();
+    if (!own->answer[0])
+        make_marks(seed);
+    return result;
+}
+
 /* Turns the request at the front into its reply. Gives the frame's size, or 0 where it has not arrived whole. */
 static size_t serve(unsigned char *frame, size_t arrived)
 {
@@ -161,7 +232,7 @@ static size_t serve(unsigned char *frame, size_t arrived)
     if (arrived < size)
         return 0;
     struct runs own = runs_of(&head, frame);
-    uint64_t result = call_with_loans(&head, &own);
+    uint64_t result = head.call == SHEET ? read_sheet(&head, &own) : call_with_loans(&head, &own);
     memcpy(frame + offsetof(struct head, result), &result, sizeof result);
     return size;
 }

@@ -3,6 +3,7 @@
 mod listings;
 mod meetings;
 pub mod plates;
+pub mod sheets;
 mod thin;
 
 use crate::answers::faults::ListFaults;

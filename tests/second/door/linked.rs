@@ -3,8 +3,12 @@
 #[path = "../../../include/zimogrud.rs"]
 mod zimogrud;
 
-use super::{Function, Lent, Question, Reply, MARGIN};
+use super::{packed, unpacked, Function, Lent, Question, Reply, Room, MARGIN, REST_STAYED, TEXT_BYTES};
 use zimogrud::{zg_flat, zg_list, zg_pair, zg_plate, zg_segment, zg_side, zg_turn};
+
+extern "C" {
+    fn zg_sheet(sheet: *const u8, sheet_length: usize, text: *mut u8) -> usize;
+}
 
 pub struct Door;
 
@@ -31,7 +35,8 @@ fn reply_to(question: &Question) -> Reply {
     let (answer, answer_len) = lent_pointer(&mut room.answer);
     let (buffer, buffer_len) = lent_pointer(&mut room.buffer);
     let start = question.start as usize;
-    // SAFETY: each pointer leads to as many numbers as are named, and nothing else uses them meanwhile.
+    // SAFETY: each pointer leads to as many numbers as are named, that of a sheet to as many bytes, and nothing else
+    // uses them meanwhile.
     let result: u64 = unsafe {
         match question.function {
             Function::Turn => zg_turn(a, a_len, answer, answer_len).into(),
@@ -41,6 +46,7 @@ fn reply_to(question: &Question) -> Reply {
             Function::Pair => zg_pair(a, a_len, b, b_len, answer, answer_len).into(),
             Function::List => zg_list(a, a_len, b, b_len, buffer, buffer_len, start, answer, answer_len).into(),
             Function::Plate => zg_plate(a.cast(), a_len, b, b_len, answer, answer_len),
+            Function::Sheet => sheet_result(a.cast(), start, &mut room),
         }
     };
     Reply {
@@ -53,4 +59,28 @@ fn reply_to(question: &Question) -> Reply {
 fn lent_pointer<Number: Copy>(lent: &mut Lent<Number>) -> (*mut Number, usize) {
     // Made from the whole run, so that a write into a margin can be seen afterwards.
     (lent.numbers.as_mut_ptr().wrapping_add(MARGIN), lent.length())
+}
+
+/// Lends a text's room whose front is the buffer, and in which the rest, with a margin on both sides, has marks.
+///
+/// # Safety
+/// The pointer leads to so many bytes, which nothing else writes meanwhile.
+unsafe fn sheet_result(sheet: *const u8, length: usize, room: &mut Room) -> u64 {
+    let margin = 8 * MARGIN;
+    let marks = marks(room.answer.part()[0], margin + TEXT_BYTES + margin);
+    let (mut whole, front) = (marks.clone(), unpacked(room.buffer.part()));
+    let front_at = margin..margin + front.len();
+    whole[front_at.clone()].copy_from_slice(&front);
+    let result = zg_sheet(sheet, length, whole.as_mut_ptr().wrapping_add(margin));
+    room.buffer.write(0, packed(&whole[front_at.clone()]).into_iter());
+    whole[front_at.clone()].copy_from_slice(&marks[front_at]);
+    let stayed = if whole == marks { REST_STAYED } else { 0 };
+    room.answer.write(0, std::iter::once(stayed));
+    result as u64
+}
+
+/// No two eights of these bytes are alike.
+fn marks(seed: u64, bytes: usize) -> Vec<u8> {
+    let numbers = (0..bytes as u64 / 8).map(|k| seed.wrapping_add(k).wrapping_mul(0x9E37_79B9_7F4A_7C15));
+    numbers.flat_map(u64::to_le_bytes).collect()
 }

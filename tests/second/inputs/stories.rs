@@ -8,7 +8,7 @@ use crate::random::Random;
 use crate::story::{Story, CALL_COORDINATES, CALL_NUMBERS};
 
 #[derive(Clone, Copy)]
-enum Phase {
+pub enum Phase {
     Fill,
     Changes,
     Undos,
@@ -33,27 +33,32 @@ pub fn tiny_story(random: &mut Random) -> Story {
 }
 
 fn told_story(random: &mut Random, tiny: bool) -> Story {
-    let mut left = match random.below(5) {
+    let calls = match random.below(5) {
         0 => random.index(13),
         _ => 150 + random.index(300),
     };
     let phases = any_phases(random);
     let mut teller = Teller::new(random, tiny);
-    let mut phase = Phase::Fill;
+    tell_phases(&mut teller, phases, calls, |teller, call| teller.tell(call));
+    teller.story
+}
+
+/// Makes up so many calls, phase by phase. How each is told, and done, is up to the caller.
+pub fn tell_phases(teller: &mut Teller, phases: &[Phase], calls: usize, mut tell: impl FnMut(&mut Teller, PlateCall)) {
+    let (mut left, mut phase) = (calls, Phase::Fill);
     while left > 0 {
         let length = any_length(teller.random, phase).min(left);
         for _ in 0..length {
-            let call = next_call(&mut teller, phase);
-            teller.tell(call);
+            let call = next_call(teller, phase);
+            tell(teller, call);
         }
         left -= length;
         phase = teller.random.pick(phases);
     }
-    teller.story
 }
 
 /// What a story is made of beside its beginning: of everything, of what tries the undo, or of what tries the count.
-fn any_phases(random: &mut Random) -> &'static [Phase] {
+pub fn any_phases(random: &mut Random) -> &'static [Phase] {
     use Phase::*;
     let kinds: [&[Phase]; 3] = [
         &[Fill, Changes, Undos, Swing, Far, Questions, Bad, Mixed],

@@ -50,6 +50,11 @@ impl<'a> Teller<'a> {
         self.story.push(&call, || random.next() as i32);
     }
 
+    /// Does the call, and leaves the story to whoever writes it in another way.
+    pub fn perform(&mut self, call: &PlateCall) {
+        self.plate.perform(call);
+    }
+
     // ---- Good changes ----
 
     /// A place into an empty slot, or where there is none a lift.

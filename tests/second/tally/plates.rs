@@ -1,6 +1,6 @@
 //! Counts of what the stories of plates met, the line that reports them, and the cases that were missed.
 
-mod cases;
+pub(super) mod cases;
 
 use super::Count;
 use crate::answers::plate::{PlateCall, Step, MOST_REACH, PARTS, SLOTS};
@@ -165,7 +165,7 @@ impl PlateTally {
     }
 }
 
-fn add(counts: &mut Vec<(&'static str, u64)>, met: &[(&'static str, bool)]) {
+pub(super) fn add(counts: &mut Vec<(&'static str, u64)>, met: &[(&'static str, bool)]) {
     if counts.is_empty() {
         counts.extend(met.iter().map(|(name, _)| (*name, 0)));
     }
@@ -174,7 +174,7 @@ fn add(counts: &mut Vec<(&'static str, u64)>, met: &[(&'static str, bool)]) {
     }
 }
 
-fn count_of<Key: Ord>(counts: &BTreeMap<Key, u64>, key: &Key) -> u64 {
+pub(super) fn count_of<Key: Ord>(counts: &BTreeMap<Key, u64>, key: &Key) -> u64 {
     counts.get(key).copied().unwrap_or(0)
 }
 
