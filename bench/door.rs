@@ -5,11 +5,7 @@ mod zimogrud;
 
 use crate::ordinary::sheet::TEXT_BYTES;
 use crate::ordinary::Answer;
-use zimogrud::{zg_list, zg_pair, zg_plate};
-
-unsafe extern "C" {
-    fn zg_sheet(sheet: *const u8, sheet_len: usize, text: *mut u8) -> usize;
-}
+use zimogrud::{zg_list, zg_pair, zg_plate, zg_sheet};
 
 pub fn pair(first: &[i32], second: &[i32]) -> Answer {
     let mut numbers = [0; 4];

@@ -4,7 +4,7 @@
 use crate::door;
 use crate::inputs::lists::{self, Input, Question};
 use crate::ordinary::{listing, Answer, TRIANGLE_NUMBERS};
-use crate::timing::{best_of, nanoseconds_each, say};
+use crate::timing::{best_of, last_line, nanoseconds_each, say};
 use std::hint::black_box;
 
 /// A listing is long, so fewer rounds do than for the pairs.
@@ -29,11 +29,7 @@ pub fn compare_and_time(goals: bool) -> Result<String, String> {
         .zip(counts)
         .filter(|(input, count)| timed_ratio(input, *count) <= input.goal)
         .count();
-    let line = format!("all listings agree; {reached} of {} goals are reached", inputs.len());
-    if goals && reached < inputs.len() {
-        return Err(line);
-    }
-    Ok(line)
+    last_line("listings", reached, inputs.len(), goals)
 }
 
 // ---- The comparison ----

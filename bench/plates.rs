@@ -7,7 +7,7 @@ use crate::ordinary::plate::kept::Kept;
 use crate::ordinary::plate::recounted::Recounted;
 use crate::ordinary::plate::{run, ANSWER_NUMBERS, CALL_NUMBERS};
 use crate::ordinary::TRIANGLE_NUMBERS;
-use crate::timing::{best_of, nanoseconds_each, say};
+use crate::timing::{best_of, last_line, nanoseconds_each, say};
 use std::hint::black_box;
 
 /// As for the listings.
@@ -32,11 +32,7 @@ pub fn compare_and_time(goals: bool) -> Result<String, String> {
         .zip(tallies)
         .filter(|(input, tally)| timed_ratio(input, tally) <= input.goal)
         .count();
-    let line = format!("all plates agree; {reached} of {} goals are reached", inputs.len());
-    if goals && reached < inputs.len() {
-        return Err(line);
-    }
-    Ok(line)
+    last_line("plates", reached, inputs.len(), goals)
 }
 
 /// Compares the faulty runs and the first calls of those that are timed otherwise. The last line to

@@ -4,7 +4,7 @@
 use crate::door;
 use crate::inputs::sheets::{self, Input};
 use crate::ordinary::sheet::{answer, TEXT_BYTES};
-use crate::timing::{best_of, nanoseconds_each, say};
+use crate::timing::{best_of, last_line, nanoseconds_each, say};
 use std::hint::black_box;
 
 /// A sheet is answered in milliseconds, and other work on the machine may disturb for longer than a few of them.
@@ -28,11 +28,7 @@ pub fn compare_and_time(goals: bool) -> Result<String, String> {
         .zip(texts)
         .filter(|(input, text)| timed_ratio(input, text) <= input.goal)
         .count();
-    let line = format!("all sheets agree; {reached} of {} goals are reached", inputs.len());
-    if goals && reached < inputs.len() {
-        return Err(line);
-    }
-    Ok(line)
+    last_line("sheets", reached, inputs.len(), goals)
 }
 
 /// Compares the texts alone. The last line to print.

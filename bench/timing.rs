@@ -28,3 +28,13 @@ pub fn nanoseconds_each(count: usize, work: impl FnOnce()) -> f64 {
 pub fn say(line: &str) {
     let _ = writeln!(std::io::stdout(), "{line}");
 }
+
+/// The last line to print of inputs that were compared and timed. It is an error where each goal has to
+/// be reached and one is not.
+pub fn last_line(what: &str, reached: usize, inputs: usize, goals: bool) -> Result<String, String> {
+    let line = format!("all {what} agree; {reached} of {inputs} goals are reached");
+    if goals && reached < inputs {
+        return Err(line);
+    }
+    Ok(line)
+}

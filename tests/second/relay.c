@@ -49,9 +49,7 @@ enum { LONGEST_ANSWER = 64, LONGEST_PLATE_ANSWERS = 1 << 14 };
 enum { LONGEST_SHEET = 1 << 20 };
 enum { BLOCK_BYTES = 1 << 24 };
 /* The room for a sheet's text, and the marks on either side of it, eight bytes each. */
-enum { TEXT_BYTES = 174768, TEXT_MARGIN = 64, TEXT_MARKS = TEXT_MARGIN + TEXT_BYTES / 8 + TEXT_MARGIN };
-
-size_t zg_sheet(const uint8_t *sheet, size_t sheet_length, uint8_t *text);
+enum { TEXT_BYTES = ZG_SHEET_TEXT_LENGTH, TEXT_MARGIN = 64, TEXT_MARKS = TEXT_MARGIN + TEXT_BYTES / 8 + TEXT_MARGIN };
 
 struct head {
     uint64_t mark;

@@ -93,6 +93,18 @@ type Refusal = (u64, u64, u64);
 /// A case and how often it was met.
 type Count = (String, u64);
 
+/// How many of the finer cases came up.
+fn finer_cases(finer: &[Count]) -> Count {
+    let met = finer.iter().filter(|(_, count)| *count > 0).count();
+    (format!("finer cases (of {})", finer.len()), met as u64)
+}
+
+/// The counts in one line.
+fn listed(counts: Vec<Count>) -> String {
+    let counted = counts.into_iter().map(|(name, count)| format!("{name} {count}"));
+    counted.collect::<Vec<_>>().join(", ")
+}
+
 pub struct Tally {
     cases: Cases,
     pub compared: u64,
@@ -162,16 +174,8 @@ impl Tally {
 
     /// One line for the reader.
     pub fn line(&self) -> String {
-        let counted = self
-            .counts(true)
-            .into_iter()
-            .map(|(name, count)| format!("{name} {count}"));
-        format!(
-            "{}: {} compared: {}",
-            self.cases.call,
-            self.compared,
-            counted.collect::<Vec<_>>().join(", ")
-        )
+        let (call, counts) = (self.cases.call, listed(self.counts(true)));
+        format!("{call}: {} compared: {counts}", self.compared)
     }
 
     /// The cases that a large run must have met and didn't.

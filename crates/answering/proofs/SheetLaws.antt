@@ -14,14 +14,14 @@ use Rattle.keeping.specs.declared.plates.Plate.{Plate}
 use Rattle.fields.specs.Fields.{headOf, bodyOf, behind}
 use Rattle.asking.specs.Calls.{callOf}
 use Rattle.fields.specs.declared.heads.Head.the-variants.{Ends, Broken, Whole}
-use Rattle.fields.proofs.FieldLaws.{WholeField, whole-field, broken-number}
+use Rattle.fields.proofs.FieldLaws.{whole-field}
 use Rattle.lines.specs.Laid.{laid}
 use Rattle.lines.specs.Lines.{lineOf}
 use Rattle.lines.proofs.LineLaws.{Put, put-more, length-laid, short-line}
 use Rattle.answering.specs.Sheets.{Lines, end, stop, field, Output, SheetText}
-use Rattle.answering.specs.Steps.{FieldKept, FieldPut, LinesPut}
+use Rattle.answering.specs.Steps.{FieldPut, LinesPut}
 use Rattle.answering.specs.declared.answer.Applied.{Applied}
-use Rattle.answering.proofs.Small.{small-count, small-number}
+use Rattle.answering.proofs.Small.{small-number}
 
 -- ---- a call answered
 -- What a call tells is the number of its outcome, and the plate stands for the history after it.

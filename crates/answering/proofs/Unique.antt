@@ -1,7 +1,7 @@
 -- The contract leaves no second text: a sheet has one. And bytes behind the 65,537th don't matter. Assumes nothing.
 use mathlib.Core.Path.{_≡_, refl, sym, ap, _∙_, subst}
 use mathlib.Core.List.{List, [], _∷_, _++_}
-use Prim.Native.Nat.{ℕ, _+_, _≤_, _<_}
+use Prim.Native.Nat.{ℕ, _+_, _≤_}
 use native.Mathlib.Omega.{arith}
 use lib.ListN.{length, length-take, take, drop, take-append-drop}
 use lib.Seq.{take-all, length-take-le}
@@ -9,10 +9,8 @@ use Rattle.checks.specs.Answers.{numberOf}
 use Rattle.slots.specs.Slots.{Clashes}
 use Rattle.slots.proofs.Clashing.{clashes-unique}
 use Rattle.plate.specs.Histories.{Call, slotsOf, outcome, run}
-use Rattle.fields.specs.Fields.{headOf, bodyOf, behind}
+use Rattle.fields.specs.Fields.{bodyOf, behind}
 use Rattle.asking.specs.Calls.{callOf}
-use Rattle.fields.specs.declared.heads.Head.{Head}
-use Rattle.fields.specs.declared.heads.Head.the-variants.{Ends, Broken, Whole}
 use Rattle.lines.specs.Lines.{lineOf}
 use Rattle.answering.specs.Sheets.{Lines, end, stop, field, longest, Output, long, read, SheetText}
 

@@ -1,6 +1,6 @@
 -- What the functions inside take for granted and promise. No public promise speaks of it.
 use mathlib.Core.Path.{_≡_}
-use mathlib.Core.List.{List, [], _∷_, _++_}
+use mathlib.Core.List.{List, [], _∷_}
 use Prim.Native.Nat.{ℕ, _+_}
 use lib.ListN.{length}
 use Rattle.checks.specs.Answers.{numberOf}

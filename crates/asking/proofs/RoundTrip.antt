@@ -1,18 +1,16 @@
 -- A field that is written is read as the call that it was written for, whatever follows it. Assumes nothing.
-use mathlib.Core.Path.{_≡_, refl, sym, ap, _∙_, subst}
+use mathlib.Core.Path.{_≡_, refl, sym, ap, _∙_}
 use mathlib.Core.Bool.{true}
 use mathlib.Core.List.{List, [], _∷_, _++_, append-nil}
-use Prim.Native.Nat.{ℕ, suc, _+_, _-_, _*_, _/_, _%_, _≤_, _<_}
+use Prim.Native.Nat.{ℕ, _+_, _<_}
 use native.Mathlib.Omega.{arith}
 use lib.IntN.{ℤ}
-use lib.ListN.{length, length-append, take, drop}
+use lib.ListN.{length, length-append}
 use lib.Seq.{take-at, drop-at, drop-drop}
-use mir.Syntax.{w32}
-use mir.Val.{SFits}
 use Rattle.shape.specs.Points.{coord}
-use Rattle.packing.specs.Reading.{lowFirst, numbersIn}
-use Rattle.packing.specs.Writing.{spread, bytesOf}
-use Rattle.packing.proofs.RoundTrip.{Words, none, one, spread-read, numbers-read, length-bytes}
+use Rattle.packing.specs.Reading.{numbersIn}
+use Rattle.packing.specs.Writing.{bytesOf}
+use Rattle.packing.proofs.RoundTrip.{Words, spread-read, numbers-read, length-bytes}
 use Rattle.slots.specs.Changes.{place, lift, shift}
 use Rattle.plate.specs.Histories.{Call, change, undo}
 use Rattle.fields.specs.Fields.{tagFits, sizeOf, headOf, bodyOf, behind}

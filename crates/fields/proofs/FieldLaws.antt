@@ -8,7 +8,6 @@ use borrow.Author.Tests.{eq-eqb, ne-eqb, eqb-true, lt-ltb, le-ltb, ltb-false}
 use lib.Dec.{eqb, ltb}
 use lib.ListN.{length, getD}
 use Rattle.fields.specs.Fields.{tagFits, sizeOf, headOf}
-use Rattle.fields.specs.declared.heads.Head.{Head}
 use Rattle.fields.specs.declared.heads.Head.the-variants.{Ends, Broken, Whole}
 
 -- ---- tags

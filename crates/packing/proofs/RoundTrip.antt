@@ -2,16 +2,14 @@
 -- nothing.
 use mathlib.Core.Path.{_≡_, refl, sym, ap, _∙_, subst}
 use mathlib.Core.List.{List, [], _∷_, _++_}
-use Prim.Native.Nat.{ℕ, zero, suc, _+_, _-_, _*_, _/_, _%_, _^_, _≤_, _<_}
-use native.Mathlib.Nat.{div-add-mod'}
+use Prim.Native.Nat.{ℕ, zero, suc, _+_, _*_, _/_, _%_, _^_, _<_}
 use native.Mathlib.Omega.{arith}
-use lib.IntN.{ℤ, pos, negsuc}
-use lib.ListN.{length, getD, take, drop}
-use lib.Seq.{take-at, drop-at}
+use lib.IntN.{ℤ}
+use lib.ListN.{length}
 use mir.Syntax.{w32}
 use mir.Val.{SFits, Fits, toZ, ofZ}
 use mir.Facts.{toZ-ofZ, ofZ-toZ, fits-ofZ}
-use Rattle.packing.specs.Reading.{lowFirst, signedOf, numberIn, numbersIn}
+use Rattle.packing.specs.Reading.{lowFirst, signedOf, numbersIn}
 use Rattle.packing.specs.Writing.{spread, bitsOf, bytesOf}
 use Rattle.packing.proofs.ByteLaws.{read-bits, written-bits}
 

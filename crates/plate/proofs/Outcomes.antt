@@ -1,20 +1,18 @@
 -- From what a plate shows to what its calls promise: the history that it stands for, and the outcome of each call. Assumes nothing.
 use mathlib.Core.Path.{_≡_, refl, sym, ap, subst, _∙_}
-use mathlib.Core.Bool.{Bool, true, false, cond}
+use mathlib.Core.Bool.{cond}
 use mathlib.Core.List.{List, [], _∷_, _++_}
-use Prim.Native.Nat.{ℕ, zero, suc, min, _+_, _-_, _<_, _≤_}
+use Prim.Native.Nat.{ℕ, zero, suc, min, _+_, _-_}
 use native.Mathlib.Numerals.{add-one}
 use native.Mathlib.Omega.{arith}
 use lib.Dec.{eqb, eqb·suc-zero}
-use lib.IntN.{ℤ}
-use lib.ListN.{getD, length, take, drop}
+use lib.ListN.{getD, take, drop}
 use Rattle.checks.specs.Answers.{Answer, served, refused, Check, fine, _then_}
 use Rattle.checks.specs.Told.{toldCheck}
 use Rattle.checks.proofs.AnswerLaws.{never-fine}
-use Rattle.slots.specs.Slots.{Slot, free, held, isFree, isOf, Clashes}
-use Rattle.slots.specs.Changes.{Change, place, lift, shift, thrice, apply, replay}
-use Rattle.slots.specs.Searches.{some, lowest, leaves}
-use Rattle.slots.specs.Arrays.{markOf}
+use Rattle.slots.specs.Slots.{isOf, Clashes}
+use Rattle.slots.specs.Changes.{Change, apply, replay}
+use Rattle.slots.specs.Searches.{some}
 use Rattle.slots.specs.Counting.{hasMark}
 use Rattle.slots.specs.Showing.{Fit}
 use Rattle.slots.proofs.Clashing.{clashes-true, clashes-only, some-mark}
@@ -23,11 +21,10 @@ use Rattle.keeping.specs.Steps.{Shows, Restored}
 use Rattle.keeping.specs.declared.plates.Plate.{Plate}
 use Rattle.keeping.specs.declared.journal.Entry.{Entry}
 use Rattle.keeping.proofs.Past.{unread, journal-push, journal-top, journal-pop}
-use Rattle.reasons.specs.Rules.{slotFree, changeChecks}
+use Rattle.reasons.specs.Rules.{changeChecks}
 use Rattle.plate.specs.Histories.{History, slotsOf, Call, change, undo, made, takenBack, outcome, run}
 use Rattle.plate.specs.Plates.{Stands, Answered}
 use Rattle.plate.specs.declared.calls.PlateAnswer.{PlateAnswer}
-use Rattle.reasons.proofs.Placing.{placing, place-order}
 use Rattle.plate.proofs.Fits.{Sound, sound}
 
 -- ---- a plate that stands for a history shows its slots

@@ -1,5 +1,6 @@
 // The empty plate, and the calls that change a plate: place, lift, shift and undo.
 use checks::Checked;
+use checks::Refusal;
 use keeping::Plate;
 use keeping::blank_entry;
 use keeping::changed;
@@ -10,7 +11,9 @@ use reasons::lift_checked;
 use reasons::place_checked;
 use reasons::shift_checked;
 use reasons::undo_checked;
+ghost use mathlib.Core.Path.{_≡_};
 ghost use mathlib.Core.List.{[]};
+ghost use Rattle.checks.specs.Told.{toldCheck, toldRefusal};
 ghost use Rattle.slots.specs.Changes.{place, lift, shift};
 ghost use Rattle.plate.specs.Histories.{run, change, undo};
 ghost use Rattle.plate.specs.Plates.{Stands, Promise};
@@ -35,15 +38,22 @@ pub fn empty() -> Plate
     }
 }
 
+// The answer of a call that is refused: the plate as it stood, and why.
+fn refusal(plate: Plate, why: Refusal) -> PlateAnswer
+    ensures { λ r. ⌜ (r .plate ≡ plate) × (toldCheck (r .told) ≡ toldRefusal why) ⌝ }
+{
+    PlateAnswer {
+        plate: plate,
+        told: Checked::Refused(why),
+    }
+}
+
 // Fills an empty slot with a triangle of a part, nine numbers.
 pub fn place(plate: Plate, slot: usize, part: usize, triangle: &[i32]) -> PlateAnswer
     ensures { λ r. ⌜ Promise plate (change (place slot part (now (triangle .entry)))) r ⌝ }
 {
     match place_checked(&plate.parts[..], slot, part, triangle) {
-        Checked::Refused(why) => PlateAnswer {
-            plate: plate,
-            told: Checked::Refused(why),
-        },
+        Checked::Refused(why) => refusal(plate, why),
         Checked::Fine => PlateAnswer {
             plate: changed(plate, slot, (part + 1) as u8, triangle),
             told: Checked::Fine,
@@ -56,10 +66,7 @@ pub fn lift(plate: Plate, slot: usize) -> PlateAnswer
     ensures { λ r. ⌜ Promise plate (change (lift slot)) r ⌝ }
 {
     match lift_checked(&plate.parts[..], slot) {
-        Checked::Refused(why) => PlateAnswer {
-            plate: plate,
-            told: Checked::Refused(why),
-        },
+        Checked::Refused(why) => refusal(plate, why),
         Checked::Fine => {
             let nothing = [0i32; 9];
             PlateAnswer {
@@ -75,10 +82,7 @@ pub fn shift(plate: Plate, part: usize, dx: i32, dy: i32, dz: i32) -> PlateAnswe
     ensures { λ r. ⌜ Promise plate (change (shift part dx dy dz)) r ⌝ }
 {
     match shift_checked(&plate.coords[..], &plate.parts[..], part, dx, dy, dz) {
-        Checked::Refused(why) => PlateAnswer {
-            plate: plate,
-            told: Checked::Refused(why),
-        },
+        Checked::Refused(why) => refusal(plate, why),
         Checked::Fine => {
             let by = [dx, dy, dz, dx, dy, dz, dx, dy, dz];
             PlateAnswer {
@@ -94,10 +98,7 @@ pub fn undo(plate: Plate) -> PlateAnswer
     ensures { λ r. ⌜ Promise plate undo r ⌝ }
 {
     match undo_checked(plate.reach) {
-        Checked::Refused(why) => PlateAnswer {
-            plate: plate,
-            told: Checked::Refused(why),
-        },
+        Checked::Refused(why) => refusal(plate, why),
         Checked::Fine => {
             let coords = plate.coords;
             let parts = plate.parts;

@@ -4,11 +4,7 @@
 mod zimogrud;
 
 use super::{packed, unpacked, Function, Lent, Question, Reply, Room, MARGIN, REST_STAYED, TEXT_BYTES};
-use zimogrud::{zg_flat, zg_list, zg_pair, zg_plate, zg_segment, zg_side, zg_turn};
-
-extern "C" {
-    fn zg_sheet(sheet: *const u8, sheet_length: usize, text: *mut u8) -> usize;
-}
+use zimogrud::{zg_flat, zg_list, zg_pair, zg_plate, zg_segment, zg_sheet, zg_side, zg_turn};
 
 pub struct Door;
 

@@ -2,7 +2,7 @@
 //! mixtures of faults.
 
 use super::meetings::named;
-use super::{fault_pairs, Count, Refusal, LIST, LIST_FAULTS};
+use super::{fault_pairs, finer_cases, Count, Refusal, LIST, LIST_FAULTS};
 use crate::answers::faults::ListFaults;
 use crate::answers::listing::{ListingFindings, MOST_TRIANGLES};
 use crate::answers::{Opinion, OFF_GRID, TRIANGLE_NUMBERS, WRONG_LENGTH};
@@ -87,8 +87,7 @@ impl Listings {
             ("several faults at once", self.mixtures.several_faults),
         ]));
         let finer = [self.fine_counts(), self.fine_mixtures()].concat();
-        let met = finer.iter().filter(|(_, count)| *count > 0).count();
-        counts.push((format!("finer cases (of {})", finer.len()), met as u64));
+        counts.push(finer_cases(&finer));
         counts
     }
 

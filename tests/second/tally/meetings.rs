@@ -2,7 +2,7 @@
 
 use super::listings::Listings;
 use super::thin::ThinMeetings;
-use super::{Count, Shapes};
+use super::{finer_cases, Count, Shapes};
 use crate::answers::{Findings, Opinion, PlaneFindings, SpaceFindings};
 use crate::geometry::axes::Overlap;
 use crate::geometry::clipping::Reach;
@@ -179,8 +179,7 @@ impl SpaceMeetings {
         counts.extend(named(self.overlaps.counts()));
         counts.extend(self.thin.counts());
         let finer = self.fine_counts();
-        let met = finer.iter().filter(|(_, count)| *count > 0).count();
-        counts.push((format!("finer cases (of {})", finer.len()), met as u64));
+        counts.push(finer_cases(&finer));
         counts
     }
 

@@ -2,7 +2,7 @@
 
 pub(super) mod cases;
 
-use super::Count;
+use super::{finer_cases, listed, Count};
 use crate::answers::plate::{PlateCall, Step, MOST_REACH, PARTS, SLOTS};
 use crate::answers::plate::{NOTHING_TO_UNDO, NO_SUCH_PART, NO_SUCH_SLOT, PART_IS_ABSENT};
 use crate::answers::plate::{SHIFT_OFF_GRID, SLOT_IS_EMPTY, SLOT_IS_FILLED};
@@ -109,11 +109,8 @@ impl PlateTally {
 
     /// One line for the reader.
     pub fn line(&self) -> String {
-        let finer = self.fine_counts();
-        let met = finer.iter().filter(|(_, count)| *count > 0).count();
         let mut counts = self.counts();
-        counts.push((format!("finer cases (of {})", finer.len()), met as u64));
-        let counted = counts.into_iter().map(|(name, count)| format!("{name} {count}"));
+        counts.push(finer_cases(&self.fine_counts()));
         format!(
             "plate: {} stories of {} calls compared: largest count {}, largest reach {}, most changes standing {}, {}",
             self.stories,
@@ -121,7 +118,7 @@ impl PlateTally {
             self.largest_count,
             self.largest_reach,
             self.most_standing,
-            counted.collect::<Vec<_>>().join(", ")
+            listed(counts)
         )
     }
 

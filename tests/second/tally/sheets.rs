@@ -2,7 +2,7 @@
 
 use super::plates::cases::kind_name;
 use super::plates::{add, count_of};
-use super::Count;
+use super::{finer_cases, listed, Count};
 use crate::answers::plate::{PlateCall, NO_SUCH_PART, NO_SUCH_SLOT, PARTS, SLOTS};
 use crate::answers::sheet::{body_bytes, next_field, End, Line, Reading};
 use crate::answers::sheet::{BODY_BYTES, CUT_FIELD, HEADER_BYTES, LONGEST_SHEET, UNKNOWN_FIELD};
@@ -102,11 +102,8 @@ impl SheetTally {
 
     /// One line for the reader.
     pub fn line(&self) -> String {
-        let finer = self.fine_counts();
-        let met = finer.iter().filter(|(_, count)| *count > 0).count();
         let mut counts = self.counts();
-        counts.push((format!("finer cases (of {})", finer.len()), met as u64));
-        let counted = counts.into_iter().map(|(name, count)| format!("{name} {count}"));
+        counts.push(finer_cases(&self.fine_counts()));
         format!(
             "sheet: {} sheets of {} fields compared: largest count {}, longest sheet {}, most lines {}, {}",
             self.sheets,
@@ -114,7 +111,7 @@ impl SheetTally {
             self.largest_count,
             self.longest_sheet,
             self.most_lines,
-            counted.collect::<Vec<_>>().join(", ")
+            listed(counts)
         )
     }
 

@@ -5,7 +5,6 @@ use Prim.Native.Nat.{ℕ}
 use Rattle.io.specs.Counts.{Counts}
 use Rattle.sheet.specs.Replies.{Replied, made}
 use Rattle.sheet.specs.declared.Got.{Got}
-use Rattle.sheet.specs.declared.Reply.{Reply}
 use Rattle.sheet.specs.declared.Reply.the-variants.{Made}
 use borrow.Author.Needs.{needs}
 use Rattle.sheet.proofs.main.Statement.{statement}

@@ -1,6 +1,5 @@
 -- `sheet::reply_to` meets its contract: the text is the answer to what was read. Assumes nothing.
 use mathlib.Core.Path.{sym, subst}
-use lib.ListN.{take}
 use Rattle.io.specs.Counts.{Counts}
 use Rattle.io.proofs.Counting.{counts}
 use Rattle.sheet.specs.Replies.{gotCount, Replied, made, unread}

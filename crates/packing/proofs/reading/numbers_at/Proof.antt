@@ -1,12 +1,12 @@
 -- `packing::reading::numbers_at` meets its contract: the first k numbers are read, and the others are still the old ones. Assumes nothing.
 use mathlib.Core.Path.{_≡_, refl, sym, ap, _∙_}
 use mathlib.Core.List.{List}
-use Prim.Native.Nat.{ℕ, _+_, _*_, _-_, _≤_}
+use Prim.Native.Nat.{ℕ, _*_, _-_, _≤_}
 use native.Mathlib.Numerals.{add-one}
 use native.Mathlib.Omega.{arith}
 use borrow.Author.Needs.{needs}
 use lib.IntN.{ℤ, pos}
-use lib.ListN.{length, length-set, set, getD, drop}
+use lib.ListN.{length, length-set, set, drop}
 use lib.Seq.{drop-drop}
 use mir.Syntax.{w32}
 use Rattle.algebra.proofs.Copying.{over, over-more, over-all}

@@ -18,6 +18,9 @@ place-checked-requires c κs = search needs
 enum-known-why : tie.Need-enum-known-why
 enum-known-why c = search needs
 
+refusal-requires : tie.Need-refusal-requires
+refusal-requires c κs = search needs
+
 enum-told : tie.Need-enum-told
 enum-told c = search needs
 
@@ -39,8 +42,8 @@ changed-requires c κs =
 returns : tie.Need-returns
 returns c = record {
   kept = λ before st.
-      let found = c .before .before .before .place-checked .ensures .rule _ (st .parts) in
-      change-refused (run before) _ _ (sym found ∙ ap toldCheck (c .before .why .given .1)) refl refl;
+      let found = c .before .before .before .before .place-checked .ensures .rule _ (st .parts) in
+      change-refused (run before) _ _ (sym found ∙ ap toldCheck (c .before .before .why .given .1)) (c .refusal .ensures .1) (c .refusal .ensures .0);
 }
 
 returns-2 : tie.Need-returns-2
@@ -59,6 +62,7 @@ place-spec =
     (tie.spec
     place-checked-requires
     enum-known-why
+    refusal-requires
     enum-told
     add-changed
     cast-changed

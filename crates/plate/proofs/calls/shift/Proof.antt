@@ -27,6 +27,9 @@ shift-checked-requires c κs = search needs
 enum-known-why : tie.Need-enum-known-why
 enum-known-why c = search needs
 
+refusal-requires : tie.Need-refusal-requires
+refusal-requires c κs = search needs
+
 enum-told : tie.Need-enum-told
 enum-told c = search needs
 
@@ -61,7 +64,7 @@ slid-requires c κs = search needs
 returns : tie.Need-returns
 returns c = record {
   kept = λ before st.
-      change-refused (run before) _ _ (sym (found-by (c .before .before .before) before st) ∙ ap toldCheck (c .before .why .given .1)) refl refl;
+      change-refused (run before) _ _ (sym (found-by (c .before .before .before .before) before st) ∙ ap toldCheck (c .before .before .why .given .1)) (c .refusal .ensures .1) (c .refusal .ensures .0);
 }
 
 returns-2 : tie.Need-returns-2
@@ -85,6 +88,7 @@ shift-spec =
     (tie.spec
     shift-checked-requires
     enum-known-why
+    refusal-requires
     enum-told
     add-slid
     cast-slid

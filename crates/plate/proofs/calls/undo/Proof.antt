@@ -1,6 +1,5 @@
 -- `plate::calls::undo` meets its contract: where the check finds a reason the plate stays, and else the latest change is taken back. Assumes nothing.
 use mathlib.Core.Path.{_≡_, refl, sym, ap, _∙_}
-use Prim.Native.Nat.{_≤_}
 use native.Mathlib.Omega.{arith}
 use Rattle.checks.specs.Told.{toldCheck}
 use Rattle.plate.specs.Histories.{run}
@@ -15,6 +14,9 @@ undo-checked-requires c κs = search needs
 enum-known-why : tie.Need-enum-known-why
 enum-known-why c = search needs
 
+refusal-requires : tie.Need-refusal-requires
+refusal-requires c κs = search needs
+
 enum-told : tie.Need-enum-told
 enum-told c = search needs
 
@@ -28,8 +30,8 @@ array-copy-out-latest c = search needs
 popped-requires : tie.Need-popped-requires
 popped-requires c κs = search needs
 
-sub-t16 : tie.Need-sub-t16
-sub-t16 c = let some = ahead (c .before .before .before .before .before .before) in omega (arith, some)
+sub-t15 : tie.Need-sub-t15
+sub-t15 c = let some = ahead (c .before .before .before .before .before .before) in omega (arith, some)
 
 restored-requires : tie.Need-restored-requires
 restored-requires c κs = search needs
@@ -37,9 +39,9 @@ restored-requires c κs = search needs
 returns : tie.Need-returns
 returns c = record {
   kept = λ before st.
-      let u = c .before .before .before in
-      let found = ap undoCheck (sym (st .reach)) ∙ sym (u .undo-checked .ensures) ∙ ap toldCheck (c .before .why .given .1) in
-      refusal _ (undo-outcome (run before) found) refl refl;
+      let u = c .before .before .before .before in
+      let found = ap undoCheck (sym (st .reach)) ∙ sym (u .undo-checked .ensures) ∙ ap toldCheck (c .before .before .why .given .1) in
+      refusal _ (undo-outcome (run before) found) (c .refusal .ensures .1) (c .refusal .ensures .0);
 }
 
 returns-2 : tie.Need-returns-2
@@ -55,10 +57,11 @@ undo-spec =
     (tie.spec
     undo-checked-requires
     enum-known-why
+    refusal-requires
     enum-told
     array-copy-out-latest
     popped-requires
-    sub-t16
+    sub-t15
     restored-requires
     returns
     returns-2)
