@@ -13,10 +13,11 @@ abbrev pub tagFits : (tag size : ℕ) → Bool
 tagFits tag size =
     cond (eqb tag 1) (eqb size 38) (cond (eqb tag 2) (eqb size 1) (cond (eqb tag 3) (eqb size 13) (cond (eqb tag 4) (eqb size 0) false)))
 
--- What the bytes that are left begin with. A cut header is 14, then 13 is an unknown tag or a wrong length for it, then a cut body is 14.
+-- The length that a header names.
 abbrev pub sizeOf : List ℕ → ℕ
 sizeOf rest = lowFirst (take 2 (drop 1 rest))
 
+-- What the bytes that are left begin with. A cut header is 14, then 13 is an unknown tag or a wrong length for it, then a cut body is 14.
 unfoldable pub headOf : List ℕ → Head
 headOf rest =
     cond (eqb (length rest) 0) Ends
