@@ -12,7 +12,7 @@ use Rattle.plate.specs.Histories.{Call}
 use Rattle.fields.specs.Fields.{headOf, bodyOf}
 use Rattle.fields.specs.declared.heads.Head.{Head}
 use Rattle.fields.specs.declared.heads.Head.the-variants.{Ends, Broken, Whole}
-use Rattle.fields.proofs.FieldLaws.{at-end, whole-field}
+use Rattle.fields.proofs.Table.{none-left, head-exactly, whole-field}
 use Rattle.asking.specs.Calls.{callOf}
 use Rattle.lines.specs.Lines.{lineOf}
 use Rattle.answering.specs.Sheets.{Lines, end, stop, field, longest, Output, long, read}
@@ -33,7 +33,7 @@ by-head more later before rest few (Whole tag size) e =
     record { text = _; is = field e (clashes-true _) (left .is) }
 
 lines-exist : (most : ℕ) (before : List Call) (rest : List ℕ) → length rest ≤ most → HasLines before rest
-lines-exist zero before rest few = record { text = []; is = end (sym (at-end rest (omega (arith, few)))) }
+lines-exist zero before rest few = record { text = []; is = end (head-exactly rest .0 (none-left (omega (arith, few)))) }
 lines-exist (suc most) before rest few = by-head most (lines-exist most) before rest few (headOf rest) refl
 
 pub record HasOutput (sheet : List ℕ) : Type 0 where

@@ -3,7 +3,7 @@ use mathlib.Core.Path.{_≡_, refl, sym, ap, _∙_, subst}
 use mathlib.Core.List.{List, [], _∷_, _++_, append-assoc, append-nil}
 use Prim.Native.Nat.{ℕ, _+_, _-_, _*_, _≤_, _<_}
 use native.Mathlib.Omega.{arith}
-use lib.ListN.{length, length-append, length-drop, take, drop, drop-of-length-le}
+use lib.ListN.{length, length-append, length-drop, take, drop}
 use lib.Seq.{drop-drop, take-all, take-at, drop-at}
 use Rattle.checks.specs.Answers.{Answer, served, refused, numberOf}
 use Rattle.checks.specs.Told.{toldCheck}
@@ -14,7 +14,7 @@ use Rattle.keeping.specs.declared.plates.Plate.{Plate}
 use Rattle.fields.specs.Fields.{headOf, bodyOf, behind}
 use Rattle.asking.specs.Calls.{callOf}
 use Rattle.fields.specs.declared.heads.Head.the-variants.{Ends, Broken, Whole}
-use Rattle.fields.proofs.FieldLaws.{whole-field}
+use Rattle.fields.proofs.Table.{none-left, head-exactly, whole-field}
 use Rattle.lines.specs.Laid.{laid}
 use Rattle.lines.specs.Lines.{lineOf}
 use Rattle.lines.proofs.LineLaws.{Put, put-more, length-laid, short-line}
@@ -152,8 +152,7 @@ module _ {sheet out : List ℕ} {plate : Plate} {at place : ℕ} {buffer : List 
   }
 
   pub all-read : length sheet ≤ at → LinesPut sheet out place buffer
-  unfolding headOf
-  all-read h = ended (ap headOf (drop-of-length-le sheet h))
+  all-read h = ended (head-exactly (drop at sheet) .0 (none-left (omega (arith, h, length-drop at sheet))))
 
   -- Room for a line, where bytes are left.
   pub room-for-line : at < length sheet → length sheet ≤ 65536 → 174768 ≤ length out → place + 8 ≤ length buffer

@@ -14,7 +14,7 @@ use Rattle.plate.proofs.Outcomes.{shown}
 use Rattle.fields.specs.Fields.{tagFits, headOf, bodyOf}
 use Rattle.asking.specs.Calls.{callOf}
 use Rattle.fields.specs.declared.heads.Head.the-variants.{Whole}
-use Rattle.fields.proofs.FieldLaws.{WholeField, whole-field, broken-number}
+use Rattle.fields.proofs.Table.{WholeField, whole-field, broken-number}
 use Rattle.lines.specs.Lines.{lineOf}
 use Rattle.lines.proofs.LineLaws.{short-line}
 use Rattle.answering.specs.Steps.{FieldPut}
