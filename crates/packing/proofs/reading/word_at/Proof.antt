@@ -1,5 +1,5 @@
 -- `packing::reading::word_at` meets its contract: the four bytes are the number. Assumes nothing.
-use native.Mathlib.Omega.{arith}
+use mathlib.Core.Path.{sym}
 use Rattle.packing.proofs.ByteLaws.{four-at}
 use borrow.Author.Needs.{needs}
 use Rattle.packing.proofs.reading.word_at.Statement.{statement}
@@ -47,7 +47,11 @@ add-result-3 c = search needs
 returns : tie.Need-returns
 returns c =
     let s = c .before .before .before .before .before in
-    (omega (arith, four-at (s .args .bytes .now) (s .args .at) (s .pre)), search needs)
+    let a = c .before .before .before .byte-at .ensures .0 in
+    let b = c .before .before .byte-at2 .ensures .0 in
+    let third = c .before .byte-at3 .ensures .0 in
+    let d = c .byte-at4 .ensures .0 in
+    (rw (a, b, third, d) (sym (four-at (s .args .bytes .now) (s .args .at) (s .pre))), search needs)
 
 pub word-at-spec : {M : Type 1} → statement M
 word-at-spec =
