@@ -49,15 +49,15 @@ tag-fits undo = refl
 fits-tag : (tag size : ℕ) → tagFits tag size ≡ true → TagLength tag size
 fits-tag tag size = cases (eqb tag 1) (eqb tag 2) (eqb tag 3) (eqb tag 4) refl refl refl refl
   where
-    known : (n m : ℕ) → TagLength n m → eqb tag n ≡ true → eqb size m ≡ true → TagLength tag size
-    known n m t e f = subst₂ TagLength (sym (eqb-true tag n e)) (sym (eqb-true size m f)) t
+    named : (n m : ℕ) → TagLength n m → eqb tag n ≡ true → eqb size m ≡ true → TagLength tag size
+    named n m t e f = subst₂ TagLength (sym (eqb-true tag n e)) (sym (eqb-true size m f)) t
 
     cases : (a b c d : Bool) → eqb tag 1 ≡ a → eqb tag 2 ≡ b → eqb tag 3 ≡ c → eqb tag 4 ≡ d →
         cond a (eqb size 38) (cond b (eqb size 1) (cond c (eqb size 13) (cond d (eqb size 0) false))) ≡ true → TagLength tag size
-    cases true b c d p q r s e = known 1 38 place p e
-    cases false true c d p q r s e = known 2 1 lift q e
-    cases false false true d p q r s e = known 3 13 shift r e
-    cases false false false true p q r s e = known 4 0 undo s e
+    cases true b c d p q r s e = named 1 38 place p e
+    cases false true c d p q r s e = named 2 1 lift q e
+    cases false false true d p q r s e = named 3 13 shift r e
+    cases false false false true p q r s e = named 4 0 undo s e
     cases false false false false p q r s e = absurd (true≢false (sym e))
 
 unfit : (tag size : ℕ) → (TagLength tag size → ⊥) → tagFits tag size ≡ false

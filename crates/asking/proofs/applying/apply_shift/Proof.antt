@@ -1,15 +1,9 @@
 -- `asking::applying::apply_shift` meets its contract: the call has the numbers of the body. Assumes nothing.
-use mathlib.Core.Path.{ap, _∙_, subst}
-use mathlib.Core.List.{List}
-use lib.IntN.{ℤ, pos}
-use lib.ListN.{getD}
-use mir.Syntax.{w32}
-use mir.Val.{SFits}
-use mir.Facts.{toZ-ofZ}
-use Rattle.shape.specs.Points.{coord}
-use Rattle.slots.specs.Changes.{shift}
-use Rattle.plate.specs.Histories.{Call, change}
+use mathlib.Core.Path.{subst}
+use Rattle.slots.specs.Changes.{Change}
+use Rattle.plate.specs.Histories.{change}
 use Rattle.plate.specs.Plates.{Promise}
+use Rattle.asking.proofs.CallLaws.{shift-made}
 use borrow.Author.Needs.{needs}
 use Rattle.asking.proofs.applying.apply_shift.Statement.{statement}
 use Rattle.asking.proofs.applying.apply_shift.Tie as tie
@@ -40,13 +34,9 @@ returns c =
     let part = c .before .before .before .before in
     let by = part .before .before in
     let s = by .before .before .before in
-    let read = by .numbers-at .last .1 .1 .0 in
-    let fits-0 : SFits w32 (getD read 0 (pos 0)) = search needs in
-    let fits-1 : SFits w32 (getD read 1 (pos 0)) = search needs in
-    let fits-2 : SFits w32 (getD read 2 (pos 0)) = search needs in
-    subst (λ (call : Call). Promise (s .args .plate) call (c .shift .result))
-    ((λ i. change (shift (part .byte-at .ensures .0 i) (toZ-ofZ fits-0 i) (toZ-ofZ fits-1 i) (toZ-ofZ fits-2 i)))
-    ∙ ap (λ (d : List ℤ). change (shift (getD (s .args .body .now) 0 0) (coord 0 d) (coord 1 d) (coord 2 d))) (by .numbers-at .ensures))
+    subst (λ (made : Change). Promise (s .args .plate) (change made) (c .shift .result))
+    (shift-made (s .args .body .now) {by = by .numbers-at .last .1 .1 .0} (part .byte-at .ensures .0) (search needs) (search needs) (search needs)
+    (by .numbers-at .ensures))
     (c .shift .ensures)
 
 pub apply-shift-spec : {M : Type 1} → statement M

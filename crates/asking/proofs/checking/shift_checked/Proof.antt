@@ -1,14 +1,7 @@
 -- `asking::checking::shift_checked` meets its contract: the call has the numbers of the body. Assumes nothing.
 use mathlib.Core.Path.{ap, _∙_}
-use mathlib.Core.List.{List}
-use lib.IntN.{ℤ, pos}
-use lib.ListN.{getD}
-use mir.Syntax.{w32}
-use mir.Val.{SFits}
-use mir.Facts.{toZ-ofZ}
-use Rattle.shape.specs.Points.{coord}
-use Rattle.slots.specs.Changes.{shift}
 use Rattle.reasons.specs.Rules.{changeChecks}
+use Rattle.asking.proofs.CallLaws.{shift-made}
 use borrow.Author.Needs.{needs}
 use Rattle.asking.proofs.checking.shift_checked.Statement.{statement}
 use Rattle.asking.proofs.checking.shift_checked.Tie as tie
@@ -39,13 +32,10 @@ returns c = λ S shown.
     let part = c .before .before .before .before in
     let by = part .before .before in
     let body = by .before .before .before .before .args .body .now in
-    let read = by .numbers-at .last .1 .1 .0 in
-    let fits-0 : SFits w32 (getD read 0 (pos 0)) = search needs in
-    let fits-1 : SFits w32 (getD read 1 (pos 0)) = search needs in
-    let fits-2 : SFits w32 (getD read 2 (pos 0)) = search needs in
     c .shift-checked .ensures .rule S shown
-    ∙ (λ i. changeChecks S (shift (part .byte-at .ensures .0 i) (toZ-ofZ fits-0 i) (toZ-ofZ fits-1 i) (toZ-ofZ fits-2 i)))
-    ∙ ap (λ (d : List ℤ). changeChecks S (shift (getD body 0 0) (coord 0 d) (coord 1 d) (coord 2 d))) (by .numbers-at .ensures)
+    ∙ ap (changeChecks S)
+    (shift-made body {by = by .numbers-at .last .1 .1 .0} (part .byte-at .ensures .0) (search needs) (search needs) (search needs)
+    (by .numbers-at .ensures))
 
 pub shift-checked-spec : {M : Type 1} → statement M
 shift-checked-spec =
