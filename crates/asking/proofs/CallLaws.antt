@@ -12,9 +12,10 @@ use Rattle.shape.specs.Points.{coord}
 use Rattle.packing.specs.Reading.{numbersIn}
 use Rattle.checks.specs.Answers.{served, refused, Check, _then_, numberOf}
 use Rattle.slots.specs.Changes.{Change, shift}
+use Rattle.reasons.specs.Findings.{undoFound}
 use Rattle.reasons.specs.Rules.{changeChecks}
 use Rattle.plate.specs.Histories.{History, slotsOf, change, undo, outcome}
-use Rattle.plate.proofs.Outcomes.{change-outcome, undoCheck, undo-outcome}
+use Rattle.plate.proofs.Outcomes.{change-outcome, undo-outcome}
 use Rattle.asking.specs.Calls.{placeIn, liftIn, shiftIn, callOf}
 
 -- ---- tags
@@ -56,5 +57,5 @@ module _ (h : History) {found : Check} where
   pub change-number : (c : Change) → found ≡ changeChecks (slotsOf h) c → numberOf found ≡ numberOf (outcome h (change c))
   change-number c e = sym (ap numberOf (change-outcome h c (sym e)) ∙ number-then found _)
 
-  pub undo-number : {reach : ℕ} → found ≡ undoCheck reach → reach ≡ h .reach → numberOf found ≡ numberOf (outcome h undo)
-  undo-number e r = sym (ap numberOf (undo-outcome h (sym (e ∙ ap undoCheck r))) ∙ number-then found _)
+  pub undo-number : {reach : ℕ} → found ≡ undoFound reach → reach ≡ h .reach → numberOf found ≡ numberOf (outcome h undo)
+  undo-number e r = sym (ap numberOf (undo-outcome h (sym (e ∙ ap undoFound r))) ∙ number-then found _)

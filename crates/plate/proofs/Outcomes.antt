@@ -1,11 +1,10 @@
 -- From what a plate shows to what its calls promise: the history that it stands for, and the outcome of each call. Assumes nothing.
 use mathlib.Core.Path.{_≡_, refl, sym, ap, subst, _∙_}
-use mathlib.Core.Bool.{cond}
 use mathlib.Core.List.{List, [], _∷_, _++_}
 use Prim.Native.Nat.{ℕ, zero, suc, min, _+_, _-_}
 use native.Mathlib.Numerals.{add-one}
 use native.Mathlib.Omega.{arith}
-use lib.Dec.{eqb, eqb·suc-zero}
+use lib.Dec.{eqb·suc-zero}
 use lib.ListN.{getD, take, drop}
 use Rattle.checks.specs.Answers.{Answer, served, refused, Check, fine, _then_}
 use Rattle.checks.specs.Told.{toldCheck}
@@ -21,6 +20,7 @@ use Rattle.keeping.specs.Steps.{Shows, Restored}
 use Rattle.keeping.specs.declared.plates.Plate.{Plate}
 use Rattle.keeping.specs.declared.journal.Entry.{Entry}
 use Rattle.keeping.proofs.Past.{unread, journal-push, journal-top, journal-pop}
+use Rattle.reasons.specs.Findings.{undoFound}
 use Rattle.reasons.specs.Rules.{changeChecks}
 use Rattle.plate.specs.Histories.{History, slotsOf, Call, change, undo, made, takenBack, outcome, run}
 use Rattle.plate.specs.Plates.{Stands, Answered}
@@ -82,26 +82,23 @@ change-made h c p r e told s =
     subst (λ (o : Answer History). Answered o p r) (sym (change-outcome h c e)) (told, made-stands h c (r .plate) s)
 
 -- ---- undo
--- What the check of an undo finds, and the outcome by it.
-abbrev pub undoCheck : ℕ → Check
-undoCheck reach = cond (eqb reach 0) (refused 12 0 0) fine
-
-by-check : (past : List Change) (k : ℕ) → takenBack past k ≡ (undoCheck k then served (record { past = drop 1 past; reach = k - 1 }))
+-- The outcome of an undo, by what its check finds.
+by-check : (past : List Change) (k : ℕ) → takenBack past k ≡ (undoFound k then served (record { past = drop 1 past; reach = k - 1 }))
 by-check past zero = refl
 by-check past (suc k) =
     let e : k ≡ suc k - 1 = omega arith in
-    let none : fine ≡ undoCheck (suc k) = rw (eqb·suc-zero k) in
+    let none : fine ≡ undoFound (suc k) = rw (eqb·suc-zero k) in
     (λ i. none i then served (record { past = drop 1 past; reach = e i }))
 
-pub undo-outcome : (h : History) {found : Check} → undoCheck (h .reach) ≡ found →
+pub undo-outcome : (h : History) {found : Check} → undoFound (h .reach) ≡ found →
     outcome h undo ≡ (found then served (record { past = drop 1 (h .past); reach = h .reach - 1 }))
 unfolding outcome
 undo-outcome h e =
     by-check (h .past) (h .reach) ∙ ap (λ (found : Check). found then served (record { past = drop 1 (h .past); reach = h .reach - 1 })) e
 
 -- Where it finds nothing there is a change to take back.
-pub undo-ahead : (k : ℕ) → undoCheck k ≡ fine → k ≡ 0 → ⊥
-undo-ahead k e none = never-fine e (ap undoCheck none)
+pub undo-ahead : (k : ℕ) → undoFound k ≡ fine → k ≡ 0 → ⊥
+undo-ahead k e none = never-fine e (ap undoFound none)
 
 -- The plate with its journal's latest entry taken out.
 abbrev popped : Plate → List Entry → Plate

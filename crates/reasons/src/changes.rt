@@ -7,13 +7,11 @@ use kernel::Kind;
 use slots::has_mark;
 use slots::lowest_leaving;
 ghost use mathlib.Core.Path.{_≡_};
-ghost use mathlib.Core.Bool.{cond};
-ghost use lib.Dec.{eqb};
 ghost use lib.ListN.{length};
-ghost use Rattle.checks.specs.Answers.{refused, fine, _then_};
+ghost use Rattle.checks.specs.Answers.{refused, _then_};
 ghost use Rattle.checks.specs.Rules.{rightLength, refuses-flat, shapeChecks};
 ghost use Rattle.checks.specs.Told.{toldCheck};
-ghost use Rattle.reasons.specs.Findings.{PlaceFound, LiftFound, ShiftFound};
+ghost use Rattle.reasons.specs.Findings.{PlaceFound, LiftFound, ShiftFound, undoFound};
 ghost use Rattle.reasons.specs.Rules.{slotWithin, partWithin};
 
 // A refusal of side 0.
@@ -109,7 +107,7 @@ pub fn shift_checked<'a>(
 
 // Refusal 12 of an undo.
 pub fn undo_checked(reach: usize) -> Checked
-    ensures { λ r. ⌜ toldCheck r ≡ cond (eqb reach 0) (refused 12 0 0) fine ⌝ }
+    ensures { λ r. ⌜ toldCheck r ≡ undoFound reach ⌝ }
 {
     if reach == 0 {
         return no(12, 0);

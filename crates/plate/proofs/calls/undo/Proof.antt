@@ -3,7 +3,8 @@ use mathlib.Core.Path.{_≡_, refl, sym, ap, _∙_}
 use native.Mathlib.Omega.{arith}
 use Rattle.checks.specs.Told.{toldCheck}
 use Rattle.plate.specs.Histories.{run}
-use Rattle.plate.proofs.Outcomes.{refusal, undoCheck, undo-outcome, undo-ahead, undo-made}
+use Rattle.reasons.specs.Findings.{undoFound}
+use Rattle.plate.proofs.Outcomes.{refusal, undo-outcome, undo-ahead, undo-made}
 use borrow.Author.Needs.{needs}
 use Rattle.plate.proofs.calls.undo.Statement.{statement}
 use Rattle.plate.proofs.calls.undo.Tie as tie
@@ -40,7 +41,7 @@ returns : tie.Need-returns
 returns c = record {
   kept = λ before st.
       let u = c .before .before .before .before in
-      let found = ap undoCheck (sym (st .reach)) ∙ sym (u .undo-checked .ensures) ∙ ap toldCheck (c .before .before .why .given .1) in
+      let found = ap undoFound (sym (st .reach)) ∙ sym (u .undo-checked .ensures) ∙ ap toldCheck (c .before .before .why .given .1) in
       refusal _ (undo-outcome (run before) found) (c .refusal .ensures .1) (c .refusal .ensures .0);
 }
 
