@@ -5,13 +5,24 @@ mod zimogrud;
 
 use crate::ordinary::sheet::TEXT_BYTES;
 use crate::ordinary::Answer;
-use zimogrud::{zg_list, zg_pair, zg_plate, zg_sheet};
+use zimogrud::{zg_list, zg_pair, zg_plate, zg_segment, zg_sheet};
+
+type Verdict = unsafe extern "C" fn(*const i32, usize, *const i32, usize, *mut u64, usize) -> u32;
 
 pub fn pair(first: &[i32], second: &[i32]) -> Answer {
+    verdict(zg_pair, first, second)
+}
+
+pub fn segment(first: &[i32], second: &[i32]) -> Answer {
+    verdict(zg_segment, first, second)
+}
+
+#[inline(always)] // so that the call is made as a caller makes it, and not by way of a pointer
+fn verdict(call: Verdict, first: &[i32], second: &[i32]) -> Answer {
     let mut numbers = [0; 4];
     // SAFETY: each pointer leads to as many numbers as are named, and nothing else uses them meanwhile.
     let result = unsafe {
-        zg_pair(
+        call(
             first.as_ptr(),
             first.len(),
             second.as_ptr(),

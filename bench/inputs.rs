@@ -1,6 +1,7 @@
-//! The pairs: three kinds that are timed, each from a seed of its own, and faulty ones. The listings'
-//! inputs, in `lists`, are made of triangles of these kinds, and of surfaces; the plates' inputs, in
-//! `plates`, of calls about such triangles, and the sheets' inputs, in `sheets`, of fields about them.
+//! The pairs, of two triangles or of a segment and a triangle: three kinds of each that are timed, each
+//! from a seed of its own, and faulty ones. The listings' inputs, in `lists`, are made of triangles of
+//! these kinds, and of surfaces; the plates' inputs, in `plates`, of calls about such triangles, and the
+//! sheets' inputs, in `sheets`, of fields about them.
 
 pub mod lists;
 pub mod plates;
@@ -19,63 +20,64 @@ const TINY_END: i32 = 4;
 
 type List = [i32; TRIANGLE_NUMBERS];
 
-pub struct Pair {
-    pub first: List,
+/// A shape of N numbers, a triangle or a segment, and a triangle.
+pub struct Pair<const N: usize> {
+    pub first: [i32; N],
     pub second: List,
 }
 
-/// Pairs of triangles that are not flat, all of one kind.
-pub struct Input {
+/// Pairs of one kind, of which no triangle is flat.
+pub struct Input<const N: usize> {
     pub name: &'static str,
-    pub pairs: Vec<Pair>,
+    pub pairs: Vec<Pair<N>>,
 }
 
-pub fn timed() -> [Input; 3] {
+pub fn timed<const N: usize>(seeds: [u64; 3]) -> [Input<N>; 3] {
     [
         Input {
             name: "random over the whole grid",
-            pairs: pairs_with_area(1, |random| box_pair(random, -GRID, GRID)),
+            pairs: pairs_with_area(seeds[0], |random| box_pair(random, -GRID, GRID)),
         },
         Input {
-            name: "small triangles spread over the grid",
-            pairs: pairs_with_area(2, small_pair),
+            name: "small and spread over the grid",
+            pairs: pairs_with_area(seeds[1], small_pair),
         },
         Input {
             name: "a tiny grid, many touching or in one plane",
-            pairs: pairs_with_area(3, tiny_pair),
+            pairs: pairs_with_area(seeds[2], tiny_pair),
         },
     ]
 }
 
-fn pairs_with_area(seed: u64, any_pair: impl Fn(&mut Random) -> Pair) -> Vec<Pair> {
+fn pairs_with_area<const N: usize>(seed: u64, any_pair: impl Fn(&mut Random) -> Pair<N>) -> Vec<Pair<N>> {
     let mut random = Random::new(seed, 0);
-    let have_area = |pair: &Pair| has_area(&pair.first) && has_area(&pair.second);
+    let is_segment_or_has_area = |list: &[i32]| list.len() < TRIANGLE_NUMBERS || has_area(list);
+    let have_area = |pair: &Pair<N>| is_segment_or_has_area(&pair.first) && has_area(&pair.second);
     let pairs = std::iter::repeat_with(|| any_pair(&mut random));
     pairs.filter(have_area).take(PAIRS).collect()
 }
 
-fn box_list(random: &mut Random, low: i32, high: i32) -> List {
-    [0; TRIANGLE_NUMBERS].map(|_| random.between(low, high))
+fn box_list<const N: usize>(random: &mut Random, low: i32, high: i32) -> [i32; N] {
+    [0; N].map(|_| random.between(low, high))
 }
 
-fn box_pair(random: &mut Random, low: i32, high: i32) -> Pair {
+fn box_pair<const N: usize>(random: &mut Random, low: i32, high: i32) -> Pair<N> {
     Pair {
         first: box_list(random, low, high),
         second: box_list(random, low, high),
     }
 }
 
-/// Each triangle has its corners near a point anywhere on the grid.
-fn small_pair(random: &mut Random) -> Pair {
+/// Each shape has its corners near a point anywhere on the grid.
+fn small_pair<const N: usize>(random: &mut Random) -> Pair<N> {
     let mut pair = box_pair(random, -SMALL_HALF, SMALL_HALF);
-    for list in [&mut pair.first, &mut pair.second] {
-        spread(random, list);
-    }
+    spread(random, &mut pair.first);
+    spread(random, &mut pair.second);
     pair
 }
 
-/// Moves a small triangle from the middle of the grid to anywhere on it.
-fn spread(random: &mut Random, list: &mut List) {
+/// Moves a small shape from the middle of the grid to anywhere on it.
+fn spread(random: &mut Random, list: &mut [i32]) {
     let end = GRID - SMALL_HALF;
     let middle = [0; 3].map(|_| random.between(-end, end));
     for (place, number) in list.iter_mut().enumerate() {
@@ -84,7 +86,7 @@ fn spread(random: &mut Random, list: &mut List) {
 }
 
 /// Every fourth pair or so lies in one plane, on which one of the axes is upright.
-fn tiny_pair(random: &mut Random) -> Pair {
+fn tiny_pair<const N: usize>(random: &mut Random) -> Pair<N> {
     let mut pair = box_pair(random, 0, TINY_END);
     if random.once_in(4) {
         let axis = random.index(3);
@@ -95,26 +97,32 @@ fn tiny_pair(random: &mut Random) -> Pair {
     pair
 }
 
-/// Two lists, each with no fault or with one or several of: a wrong length, a number off the grid. Many
-/// have their corners on one line, which is no fault.
-pub fn faulty() -> Vec<[Vec<i32>; 2]> {
-    let mut random = Random::new(4, 0);
-    let any_pair = || [0; 2].map(|_| faulty_list(&mut random));
+/// Two lists, of a shape of N numbers and of a triangle, each with no fault or with one or several of: a
+/// wrong length, a number off the grid. Many have their corners on one line, which is no fault.
+pub fn faulty<const N: usize>(seed: u64) -> Vec<[Vec<i32>; 2]> {
+    let mut random = Random::new(seed, 0);
+    let any_pair = || {
+        [
+            faulty_list::<N>(&mut random),
+            faulty_list::<TRIANGLE_NUMBERS>(&mut random),
+        ]
+    };
     std::iter::repeat_with(any_pair).take(PAIRS).collect()
 }
 
-fn faulty_list(random: &mut Random) -> Vec<i32> {
-    let mut list = faulty_triangle(random).to_vec();
+fn faulty_list<const N: usize>(random: &mut Random) -> Vec<i32> {
+    let mut list = faulty_shape::<N>(random).to_vec();
     if random.once_in(4) {
         list.resize(random.index(2 * TRIANGLE_NUMBERS), 0);
     }
     list
 }
 
-fn faulty_triangle(random: &mut Random) -> List {
+/// The last corner is often the first.
+fn faulty_shape<const N: usize>(random: &mut Random) -> [i32; N] {
     let mut list = box_list(random, 0, TINY_END);
     if random.once_in(4) {
-        list.copy_within(0..3, 6);
+        list.copy_within(0..3, N - 3);
     }
     for _ in 0..random.below(3) {
         let place = random.index(list.len());

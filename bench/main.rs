@@ -1,29 +1,31 @@
 //! The benchmark: times calls of libdoor.a beside ordinary code that does the same job by the same
 //! method, on the same inputs in the same run, and gives the ratio of the two. The calls are `zg_pair`
-//! ("pairs"), `zg_list` ("listings"), `zg_plate` ("plates") and `zg_sheet` ("sheets").
+//! ("pairs"), `zg_segment` ("segments"), `zg_list` ("listings"), `zg_plate` ("plates") and `zg_sheet`
+//! ("sheets").
 //!
-//! For the pairs and the listings the ordinary code has 128-bit numbers. With 64-bit numbers it is
-//! timed too, to show what of that is due to the width of the numbers alone. For the plates and the
-//! sheets it has 64-bit numbers. A plate that recounts all pairs at each call is timed too, to show what
-//! keeping the count gains. With --check nothing is timed: the sheets' inputs and a part of the plates'
-//! are compared.
+//! For the pairs, the segments and the listings the ordinary code has 128-bit numbers. With 64-bit
+//! numbers it is timed too, to show what of that is due to the width of the numbers alone. For the plates
+//! and the sheets it has 64-bit numbers. A plate that recounts all pairs at each call is timed too, to
+//! show what keeping the count gains. With --check nothing is timed: the sheets' inputs and a part of the
+//! plates' are compared.
 //!
 //! `bench/run` says how it is called, and which arguments go together.
 //!
 //! Exit status: 0 all agree; 1 two answers differ, or a ratio of the door is above what --at-most
-//! allows for the pairs, or with --goals above the goal of a listing, a plate or a sheet; 2 bad arguments.
+//! allows for the pairs and the segments, or with --goals above the goal of a listing, a plate or a
+//! sheet; 2 bad arguments.
 
 mod door;
 mod inputs;
 mod listings;
 mod ordinary;
-mod pairs;
 mod plates;
 #[allow(dead_code)] // the second program asks it for more
 #[path = "../tests/second/random.rs"]
 mod random;
 mod sheets;
 mod timing;
+mod verdicts;
 
 use std::process::ExitCode;
 use timing::say;
@@ -34,10 +36,11 @@ struct Asked {
     /// Nothing is timed.
     check: bool,
     pairs: bool,
+    segments: bool,
     listings: bool,
     plates: bool,
     sheets: bool,
-    /// The highest ratio that is allowed for the pairs.
+    /// The highest ratio that is allowed for the pairs and the segments.
     at_most: Option<f64>,
     /// Whether each listing, each plate and each sheet that is timed has to reach its goal.
     goals: bool,
@@ -56,8 +59,12 @@ fn main() -> ExitCode {
     }
     // All are run even if one fails, and each says its last line as soon as it has it.
     let mut all_well = true;
+    let at_most = asked.at_most.unwrap_or(f64::INFINITY);
     if asked.pairs {
-        all_well &= told(pairs::compare_and_time(asked.at_most.unwrap_or(f64::INFINITY)));
+        all_well &= told(verdicts::pairs(at_most));
+    }
+    if asked.segments {
+        all_well &= told(verdicts::segments(at_most));
     }
     if asked.listings {
         all_well &= told(listings::compare_and_time(asked.goals));
@@ -91,6 +98,7 @@ fn read_arguments(mut arguments: impl Iterator<Item = String>) -> Result<Asked, 
     while let Some(name) = arguments.next() {
         match name.as_str() {
             "pairs" => asked.pairs = true,
+            "segments" => asked.segments = true,
             "listings" => asked.listings = true,
             "plates" => asked.plates = true,
             "sheets" => asked.sheets = true,
@@ -100,8 +108,15 @@ fn read_arguments(mut arguments: impl Iterator<Item = String>) -> Result<Asked, 
             _ => return Err(format!("unknown argument {name:?}")),
         }
     }
-    if !asked.pairs && !asked.listings && !asked.plates && !asked.sheets {
-        (asked.pairs, asked.listings, asked.plates, asked.sheets) = (true, true, true, true);
+    let named = [
+        &mut asked.pairs,
+        &mut asked.segments,
+        &mut asked.listings,
+        &mut asked.plates,
+        &mut asked.sheets,
+    ];
+    if named.iter().all(|is_asked| !**is_asked) {
+        named.into_iter().for_each(|is_asked| *is_asked = true);
     }
     Ok(asked)
 }

@@ -1,8 +1,9 @@
 //! The yardstick: an ordinary pair test, written for reading. It takes what `zg_pair` takes, makes
 //! the same checks in the same order, decides by the same method ("The method of document 000" in
 //! document 01, step by step, and of flat triangles the one in `thin`) and gives the same four numbers.
-//! The ordinary listing, in `listing`, stands to `zg_list` in the same way, and the ordinary plate, in
-//! `plate`, to `zg_plate`, and the ordinary reader of job sheets, in `sheet`, to `zg_sheet`.
+//! The ordinary segment test stands to `zg_segment` in the same way, the ordinary listing, in `listing`,
+//! to `zg_list`, the ordinary plate, in `plate`, to `zg_plate`, and the ordinary reader of job sheets, in
+//! `sheet`, to `zg_sheet`.
 //!
 //! Every difference, product and determinant is a number of the type `W`: i128, or i64, in which
 //! everything on the grid fits as well.
@@ -19,6 +20,7 @@ use std::ops::{Add, Mul, Sub};
 /// Every coordinate lies from -GRID to GRID, ends included.
 pub const GRID: i32 = 524_288;
 pub const TRIANGLE_NUMBERS: usize = 9;
+pub const SEGMENT_NUMBERS: usize = 6;
 
 /// The numbers of an answer, in the order of zimogrud.h.
 #[derive(Clone, Copy, PartialEq, Debug)]
@@ -53,12 +55,28 @@ pub fn pair<W: Whole>(first: &[i32], second: &[i32]) -> Answer {
     answered(checked_verdict::<W>(first, second).map(u64::from))
 }
 
+/// Whether the segment of a list and the triangle of another have a point in common, or why that can't
+/// be answered. Not inlined either.
+#[inline(never)]
+pub fn segment<W: Whole>(first: &[i32], second: &[i32]) -> Answer {
+    answered(checked_segment_verdict::<W>(first, second).map(u64::from))
+}
+
 fn checked_verdict<W: Whole>(first: &[i32], second: &[i32]) -> Result<bool, Answer> {
-    check_length(first, 0)?;
-    check_length(second, 1)?;
+    check_length(first, TRIANGLE_NUMBERS, 0)?;
+    check_length(second, TRIANGLE_NUMBERS, 1)?;
     let first = checked_shape::<W>(first, 0, 0)?;
     let second = checked_shape::<W>(second, 1, 0)?;
     Ok(shapes_meet::<W>(first, second))
+}
+
+fn checked_segment_verdict<W: Whole>(first: &[i32], second: &[i32]) -> Result<bool, Answer> {
+    check_length(first, SEGMENT_NUMBERS, 0)?;
+    check_length(second, TRIANGLE_NUMBERS, 1)?;
+    check_grid(first, 0, 0)?;
+    let segment = [corner(first, 0), corner(first, 3)];
+    let triangle = checked_shape::<W>(second, 1, 0)?;
+    Ok(thin::segment_meets::<W>(segment, &triangle))
 }
 
 fn answered(value: Result<u64, Answer>) -> Answer {
@@ -84,27 +102,36 @@ fn refusal(number: u64, side: u64, place: usize) -> Answer {
     }
 }
 
-fn check_length(list: &[i32], side: u64) -> Result<(), Answer> {
-    if list.len() == TRIANGLE_NUMBERS {
+fn check_length(list: &[i32], wanted: usize, side: u64) -> Result<(), Answer> {
+    if list.len() == wanted {
         Ok(())
     } else {
         Err(refusal(3, side, list.len()))
     }
 }
 
+/// The numbers stand in their list from this place on.
+fn check_grid(numbers: &[i32], side: u64, from: usize) -> Result<(), Answer> {
+    match numbers.iter().position(|number| !(-GRID..=GRID).contains(number)) {
+        Some(place) => Err(refusal(1, side, from + place)),
+        None => Ok(()),
+    }
+}
+
 /// The triangle that nine numbers give, which are those at this index of their list.
 fn checked_shape<W: Whole>(numbers: &[i32], side: u64, index: usize) -> Result<Shape, Answer> {
-    if let Some(place) = numbers.iter().position(|number| !(-GRID..=GRID).contains(number)) {
-        return Err(refusal(1, side, TRIANGLE_NUMBERS * index + place));
-    }
-    let corner = |at: usize| [numbers[at], numbers[at + 1], numbers[at + 2]];
-    let corners = [corner(0), corner(3), corner(6)];
+    check_grid(numbers, side, TRIANGLE_NUMBERS * index)?;
+    let corners = [corner(numbers, 0), corner(numbers, 3), corner(numbers, 6)];
     let is_flat = normal::<W>(corners) == [W::from(0); 3];
     Ok(Shape { corners, is_flat })
 }
 
+fn corner(numbers: &[i32], at: usize) -> Point {
+    [numbers[at], numbers[at + 1], numbers[at + 2]]
+}
+
 /// Whether nine numbers give a triangle on the grid that is not flat.
-pub fn has_area(numbers: &[i32; TRIANGLE_NUMBERS]) -> bool {
+pub fn has_area(numbers: &[i32]) -> bool {
     checked_shape::<i64>(numbers, 0, 0).is_ok_and(|shape| !shape.is_flat)
 }
 

@@ -7,7 +7,7 @@
 # the comment at its front: -h and --help print that comment, and the arguments that the command knows are those of the lines
 # that call it there, four blanks in, like
 #
-#     bench/run [pairs] [listings] [plates] [sheets] [--at-most RATIO] [--goals]
+#     bench/run [pairs] [segments] [listings] [plates] [sheets] [--at-most RATIO] [--goals]
 #
 # A word in capitals is a value that follows: N and S are whole numbers, N not 0; RATIO is a number above 0, and NAME a name.
 # What follows a < is no argument. An argument that is not known, or a value that is not of its kind, is refused in one line,

@@ -2,7 +2,7 @@
 //! faulty ones.
 
 use super::surfaces::{cube, sphere, with_slivers};
-use super::{box_list, faulty_triangle, spread, List, PAIRS, SMALL_HALF, TINY_END};
+use super::{box_list, faulty_shape, spread, List, PAIRS, SMALL_HALF, TINY_END};
 use crate::ordinary::listing::MOST_TRIANGLES;
 use crate::ordinary::{has_area, GRID, TRIANGLE_NUMBERS};
 use crate::random::Random;
@@ -60,7 +60,11 @@ fn of_random(seed: u64, name: &'static str, goal: f64, any_triangle: impl Fn(&mu
     let mut random = Random::new(seed, 0);
     let mut list_with_area = || {
         let triangles = std::iter::repeat_with(|| any_triangle(&mut random));
-        triangles.filter(has_area).take(MOST_TRIANGLES).flatten().collect()
+        triangles
+            .filter(|list| has_area(list))
+            .take(MOST_TRIANGLES)
+            .flatten()
+            .collect()
     };
     Input {
         name,
@@ -114,11 +118,7 @@ pub fn faulty() -> Vec<Question> {
 
 /// Every second list or so has triangles on the grid only, a few of them flat.
 fn faulty_list(random: &mut Random) -> Vec<i32> {
-    let any_triangle = if random.once_in(2) {
-        faulty_triangle
-    } else {
-        tiny_triangle
-    };
+    let any_triangle = if random.once_in(2) { faulty_shape } else { tiny_triangle };
     let mut list = Vec::new();
     for _ in 0..random.below(4) {
         list.extend(any_triangle(random));

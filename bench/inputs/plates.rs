@@ -2,7 +2,7 @@
 //! faulty ones.
 
 use super::lists::{small_triangle, tiny_triangle};
-use super::{box_list, faulty_triangle, List, SMALL_HALF};
+use super::{box_list, faulty_shape, List, SMALL_HALF};
 use crate::ordinary::plate::kept::Kept;
 use crate::ordinary::plate::{Plate, ANSWER_NUMBERS, CALL_NUMBERS, CLASH, LIFT, PARTS, PLACE, SHIFT, SLOTS, UNDO};
 use crate::ordinary::{GRID, TRIANGLE_NUMBERS};
@@ -118,7 +118,7 @@ fn any_call(random: &mut Random, style: &Style) -> Call {
         _ => [0, 0],
     };
     let numbers = match kind {
-        PLACE if random.once_in(20) => faulty_triangle(random),
+        PLACE if random.once_in(20) => faulty_shape(random),
         PLACE => (style.any_triangle)(random),
         SHIFT => any_move(random, style.farthest),
         _ => [0; TRIANGLE_NUMBERS],
@@ -181,11 +181,7 @@ pub fn faulty() -> Vec<Question> {
 
 fn faulty_question(random: &mut Random) -> Question {
     let style = Style {
-        any_triangle: if random.once_in(2) {
-            faulty_triangle
-        } else {
-            tiny_triangle
-        },
+        any_triangle: if random.once_in(2) { faulty_shape } else { tiny_triangle },
         farthest: [2; 3],
     };
     let mut run = Run::default();

@@ -2,7 +2,7 @@
 //! and faulty ones.
 
 use super::plates::{any_middle_triangle, any_move, any_part, any_slot};
-use super::{faulty_triangle, List};
+use super::{faulty_shape, List};
 use crate::ordinary::plate::{LIFT, PARTS, PLACE, SHIFT, SLOTS, UNDO};
 use crate::ordinary::sheet::MOST_BYTES;
 use crate::random::Random;
@@ -125,7 +125,7 @@ fn faulty_sheet(random: &mut Random) -> Vec<u8> {
 fn put_any_field(random: &mut Random, sheet: &mut Vec<u8>) {
     let (slot, part) = (any_slot(random) as u8, any_part(random) as u8);
     match random.pick(&KINDS) {
-        PLACE => put_place(sheet, slot, part, &faulty_triangle(random)),
+        PLACE => put_place(sheet, slot, part, &faulty_shape(random)),
         LIFT => put_field(sheet, LIFT, &[slot]),
         SHIFT => put_field(sheet, SHIFT, &body_of(&[part], &any_move(random, [2; 3])[..3])),
         _ => put_field(sheet, UNDO, &[]),

@@ -1,12 +1,12 @@
-//! Flat triangles, whose corners lie on one line. Such a triangle is what its edges are, a segment or,
-//! where all corners are equal, a point. Two of them are the whole of it: so it meets what one of two
-//! edges meets.
+//! Segments, and flat triangles, whose corners lie on one line. Such a triangle is what its edges are, a
+//! segment or, where all corners are equal, a point. Two of them are the whole of it: so it meets what one
+//! of two edges meets.
 
 use super::{coordinates_kept, flat, flattened, side, Point, Shape, Triangle, Whole};
 use std::cmp::Ordering::{Equal, Greater, Less};
 
 /// Its ends may be equal.
-type Segment = [Point; 2];
+pub type Segment = [Point; 2];
 
 /// Whether two shapes have a point in common of which at least one is flat.
 pub fn meet<W: Whole>(first: &Shape, second: &Shape) -> bool {
@@ -29,7 +29,7 @@ fn edges_of(shape: &Shape) -> [Segment; 3] {
     [[a, b], [b, c], [c, a]]
 }
 
-fn segment_meets<W: Whole>(segment: Segment, shape: &Shape) -> bool {
+pub fn segment_meets<W: Whole>(segment: Segment, shape: &Shape) -> bool {
     if shape.is_flat {
         parts_of(shape)
             .into_iter()
