@@ -14,17 +14,15 @@ use lib.Seq.{sets, sets-eq}
 use lib.Signed.{mag}
 use mir.Syntax.{w64}
 use mir.Val.{toZ, ofZ, hbits}
-use Rattle.algebra.proofs.Solver.{ring}
-use Rattle.algebra.proofs.Expression.{_⊞_, _⊠_}
 use Rattle.algebra.proofs.Machine.{Reads, exact, held, returned, size, sum, difference, product}
 use Rattle.shape.specs.Points.{Point, coord}
-use Rattle.shape.specs.Signs.{turn, side, row, minor, determinant}
+use Rattle.shape.specs.Signs.{turn, row, minor}
+use Rattle.shape.specs.Normals.{dot, normalOf}
 use Rattle.shape.specs.Flat.{isZero}
 use Rattle.shape.proofs.FlatLaws.{zero-says}
 use Rattle.shape.proofs.VerdictLaws.{says-no, says-fixed}
-use Rattle.shape.proofs.Symbols.{values, point, rowE, minorE, determinantE, sideOf}
 use Rattle.exact.specs.Grid.{limit}
-use Rattle.exact.specs.Vectors.{Sized, differenceSize, minorSize, minors, dot, normalOf}
+use Rattle.exact.specs.Vectors.{Sized, differenceSize, minorSize}
 
 -- A number stored in 64 bits and read back.
 abbrev pub kept : ℤ → ℤ
@@ -92,13 +90,6 @@ vector {x} {y} {z} {n} p q r = ((λ i. p .is i ∷ q .is i ∷ r .is i ∷ []), 
     each (suc (suc zero)) = size r .abs
     each (suc (suc (suc i))) = omega arith
 
--- The 3 by 3 determinant is the first row times the minors of the other two.
-pub determinant-by-minors : (u v w : Point) → dot u (minors v w) ≡ determinant u v w
-determinant-by-minors u v w =
-    ring (values (u ∷ v ∷ w ∷ []))
-    (point 0 0 ⊠ minorE 1 2 (point 1) (point 2) ⊞ point 0 1 ⊠ minorE 2 0 (point 1) (point 2) ⊞ point 0 2 ⊠ minorE 0 1 (point 1) (point 2))
-    (determinantE (point 0) (point 1) (point 2)) tt refl
-
 -- ---- a list whose numbers are all stored anew, one by one
 pub all-stored : {A : Type 0} (new old : List A) → length old ≡ length new → sets old 0 new ≡ new
 all-stored {A} new old e =
@@ -126,22 +117,13 @@ module _ (l : List ℤ) (long : length l ≡ 3) where
       ∙ are-all l long
 
 -- ---- the normal of a plane
--- The determinant is the row of the first corner times the normal, whatever the fourth point is.
-pub side-by-normal : (p q r d : Point) → dot (row p d) (normalOf p q r) ≡ side p q r d
-side-by-normal p q r d =
-    let u = rowE (point 1) (point 0) in
-    let v = rowE (point 2) (point 0) in
-    ring (values (p ∷ q ∷ r ∷ d ∷ []))
-    (rowE (point 0) (point 3) 0 ⊠ minorE 1 2 u v ⊞ rowE (point 0) (point 3) 1 ⊠ minorE 2 0 u v ⊞ rowE (point 0) (point 3) 2 ⊠ minorE 0 1 u v)
-    (sideOf (point 0) (point 1) (point 2) (point 3)) tt refl
-
 sized-row : {a d : Point} → Sized limit a → Sized limit d → Sized differenceSize (row a d)
 sized-row s t = vector (exact (gap s t 0 .within)) (exact (gap s t 1 .within)) (exact (gap s t 2 .within)) .1
 
 pub sized-normal : {p q r : Point} → Sized limit p → Sized limit q → Sized limit r → Sized minorSize (normalOf p q r)
 sized-normal {p} {q} {r} a b c =
-    let u : Sized differenceSize (row q p) = sized-row b a in
-    let v : Sized differenceSize (row r p) = sized-row c a in
+    let u : Sized differenceSize (row p r) = sized-row a c in
+    let v : Sized differenceSize (row q r) = sized-row b c in
     vector (exact (minor-read u v 1 2 .within)) (exact (minor-read u v 2 0 .within)) (exact (minor-read u v 0 1 .within)) .1
 
 -- ---- what the machine's tests of equality tell
@@ -153,18 +135,18 @@ by-bits x y t same other = by-test (eqb x y) refl
     by-test true e = e ∙ sym (same (eqb-true x y e))
     by-test false e = e ∙ sym (other (eqb-false x y e))
 
-pub zero-test : {z : ℤ} → z ≡ pos 0 → isZero z ≡ true
+zero-test : {z : ℤ} → z ≡ pos 0 → isZero z ≡ true
 zero-test e = ap isZero e
 
-pub not-zero-test : (z : ℤ) → (z ≡ pos 0 → ⊥) → isZero z ≡ false
+not-zero-test : (z : ℤ) → (z ≡ pos 0 → ⊥) → isZero z ≡ false
 not-zero-test z h = says-fixed (zero-says z) (says-no h)
 
 -- A value that is the z of its contract, against 0.
 module _ {r z : ℤ} (fits : mag r < 2 ^ hbits w64) (e : r ≡ z) where
-  pub zero-kept : ofZ w64 r ≡ 0 → z ≡ pos 0
+  zero-kept : ofZ w64 r ≡ 0 → z ≡ pos 0
   zero-kept h = sym (returned w64 fits e) ∙ ap (toZ w64) h
 
-  pub not-zero-kept : (ofZ w64 r ≡ 0 → ⊥) → z ≡ pos 0 → ⊥
+  not-zero-kept : (ofZ w64 r ≡ 0 → ⊥) → z ≡ pos 0 → ⊥
   not-zero-kept h f = h (ap (ofZ w64) (e ∙ f))
 
   pub zero-kept-test : eqb (ofZ w64 r) 0 ≡ isZero z
@@ -177,6 +159,3 @@ module _ {n : ℕ} {a : Point} (t : T (ltb n (2 ^ hbits w64))) (s : Sized n a) (
 
   pub not-zero-coordinate : (ofZ w64 (coord i a) ≡ 0 → ⊥) → isZero (coord i a) ≡ false
   not-zero-coordinate h = not-zero-test (coord i a) (λ e. h (ap (ofZ w64) e))
-
-  pub zero-coordinate-test : eqb (ofZ w64 (coord i a)) 0 ≡ isZero (coord i a)
-  zero-coordinate-test = by-bits (ofZ w64 (coord i a)) 0 (isZero (coord i a)) zero-coordinate not-zero-coordinate

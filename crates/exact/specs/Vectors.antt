@@ -1,10 +1,10 @@
 -- The vocabulary of the leaves in src/determinant.rt: points and vectors as the code holds them, how large their coordinates
--- can be, the 3 by 3 determinant as a product of a row with the minors of the other two, and the normal of a plane.
+-- can be, the normal of a list's triangle, and what a sign tells.
 use mathlib.Core.List.{List, [], _∷_}
 use Prim.Native.Nat.{ℕ, _+_, _*_, _≤_}
-use lib.IntN.{ℤ, pos, negsuc, natAbs, _+ℤ_, _*ℤ_}
+use lib.IntN.{ℤ, pos, negsuc, natAbs}
 use Rattle.shape.specs.Points.{Point, coord, pointAt}
-use Rattle.shape.specs.Signs.{row, minor}
+use Rattle.shape.specs.Normals.{normalOf}
 use Rattle.exact.specs.Grid.{limit}
 use Rattle.exact.specs.declared.determinant.PlanePoint.{PlanePoint}
 use Rattle.exact.specs.declared.determinant.SpacePoint.{SpacePoint}
@@ -27,17 +27,6 @@ differenceSize = limit + limit
 
 abbrev pub minorSize : ℕ
 minorSize = differenceSize * differenceSize + differenceSize * differenceSize
-
--- The three 2 by 2 minors of the rows v and w, with the signs that they have in the determinant.
-abbrev pub minors : Point → Point → Point
-minors v w = minor 1 2 v w ∷ minor 2 0 v w ∷ minor 0 1 v w ∷ []
-
-abbrev pub dot : Point → Point → ℤ
-dot u n = coord 0 u *ℤ coord 0 n +ℤ coord 1 u *ℤ coord 1 n +ℤ coord 2 u *ℤ coord 2 n
-
--- The normal of the plane of p, q, r: the minors of [p,q,r,X], which are the same for every X (document 000).
-abbrev pub normalOf : Point → Point → Point → Point
-normalOf p q r = minors (row q p) (row r p)
 
 -- The normal of the triangle that fills a list of nine numbers.
 abbrev pub normalIn : List ℤ → Point

@@ -6,9 +6,10 @@ ghost use lib.IntN.{pos};
 ghost use lib.ListN.{length, getD};
 ghost use Rattle.shape.specs.Points.{pointAt, pointsAt};
 ghost use Rattle.shape.specs.Signs.{turn, side, row, bracket, sign, digit};
+ghost use Rattle.shape.specs.Normals.{minors, dot, normalOf};
 ghost use Rattle.shape.specs.SpaceTest.{level};
 ghost use Rattle.exact.specs.Grid.{limit, Ready};
-ghost use Rattle.exact.specs.Vectors.{signNumber, planar, spatial, Sized, differenceSize, minorSize, minors, dot, normalOf};
+ghost use Rattle.exact.specs.Vectors.{signNumber, planar, spatial, Sized, differenceSize, minorSize};
 
 // A point of the plane, or a vector.
 pub struct PlanePoint {
@@ -97,7 +98,7 @@ fn minors_of(v: SpacePoint, w: SpacePoint) -> SpacePoint
     }
 }
 
-// The product of a row and the minors of the two others: with them the determinant.
+// The product of a row and the minors of two others.
 fn dot_of(u: SpacePoint, n: SpacePoint) -> i64
     requires { ⌜ Sized differenceSize (spatial u) × Sized minorSize (spatial n) ⌝ }
     ensures { λ r. ⌜ r ≡ dot (spatial u) (spatial n) ⌝ }
@@ -105,12 +106,28 @@ fn dot_of(u: SpacePoint, n: SpacePoint) -> i64
     u.x * n.x + u.y * n.y + u.z * n.z
 }
 
+// The normal of the plane of a, b, c: the minors of [a,b,c,X], which are the same for every X. Who asks one plane several times takes them once.
+pub fn normal_at(a: SpacePoint, b: SpacePoint, c: SpacePoint) -> SpacePoint
+    requires { ⌜ Sized limit (spatial a) × Sized limit (spatial b) × Sized limit (spatial c) ⌝ }
+    ensures { λ r. ⌜ (spatial r ≡ normalOf (spatial a) (spatial b) (spatial c)) × Sized minorSize (spatial r) ⌝ }
+{
+    minors_of(row_of(a, c), row_of(b, c))
+}
+
+// The side of d against the plane through c that has this normal.
+fn side_over(c: SpacePoint, normal: SpacePoint, d: SpacePoint) -> i64
+    requires { ⌜ Sized limit (spatial c) × Sized minorSize (spatial normal) × Sized limit (spatial d) ⌝ }
+    ensures { λ r. ⌜ r ≡ dot (row (spatial c) (spatial d)) (spatial normal) ⌝ }
+{
+    dot_of(row_of(c, d), normal)
+}
+
 // [a,b,c,d], definition 2.2: the determinant whose rows are a - d, b - d, c - d.
 pub fn side_at(a: SpacePoint, b: SpacePoint, c: SpacePoint, d: SpacePoint) -> i64
     requires { ⌜ Sized limit (spatial a) × Sized limit (spatial b) × Sized limit (spatial c) × Sized limit (spatial d) ⌝ }
     ensures { λ r. ⌜ r ≡ side (spatial a) (spatial b) (spatial c) (spatial d) ⌝ }
 {
-    dot_of(row_of(a, d), minors_of(row_of(b, d), row_of(c, d)))
+    side_over(c, normal_at(a, b, c), d)
 }
 
 // [a,b,c,d] of the four points in a list.
@@ -164,18 +181,10 @@ pub fn level_at(a: SpacePoint, b: SpacePoint, c: SpacePoint, d: SpacePoint) -> u
     level_of(side_at(a, b, c, d))
 }
 
-// The normal of the plane of a, b, c.
-pub fn normal_at(a: SpacePoint, b: SpacePoint, c: SpacePoint) -> SpacePoint
-    requires { ⌜ Sized limit (spatial a) × Sized limit (spatial b) × Sized limit (spatial c) ⌝ }
-    ensures { λ r. ⌜ (spatial r ≡ normalOf (spatial a) (spatial b) (spatial c)) × Sized minorSize (spatial r) ⌝ }
+// The level of d over the plane through c that has this normal.
+pub fn level_over(c: SpacePoint, normal: SpacePoint, d: SpacePoint) -> u32
+    requires { ⌜ Sized limit (spatial c) × Sized minorSize (spatial normal) × Sized limit (spatial d) ⌝ }
+    ensures { λ r. ⌜ (r ≡ digit (sign (dot (row (spatial c) (spatial d)) (spatial normal)))) × (r ≤ 2) ⌝ }
 {
-    minors_of(row_of(b, a), row_of(c, a))
-}
-
-// The level of d over the plane through a that has this normal.
-pub fn level_over(a: SpacePoint, normal: SpacePoint, d: SpacePoint) -> u32
-    requires { ⌜ Sized limit (spatial a) × Sized minorSize (spatial normal) × Sized limit (spatial d) ⌝ }
-    ensures { λ r. ⌜ (r ≡ digit (sign (dot (row (spatial a) (spatial d)) (spatial normal)))) × (r ≤ 2) ⌝ }
-{
-    level_of(dot_of(row_of(a, d), normal))
+    level_of(side_over(c, normal, d))
 }

@@ -1,6 +1,7 @@
 // The triangles whose flatness a call asks about, and whether one is flat.
 use exact::turn_of;
-use space::axis_of;
+use space::is_null;
+use space::normal_of;
 use space::space_triangle;
 ghost use mathlib.Core.Path.{_≡_};
 ghost use Prim.Native.Nat.{_*_};
@@ -22,6 +23,6 @@ pub fn is_flat(kind: Kind, numbers: &[i32]) -> bool
 {
     match kind {
         Kind::PlaneTriangle => turn_of(numbers) == 0,
-        Kind::SpaceTriangle => axis_of(space_triangle(numbers)) == 3,
+        Kind::SpaceTriangle => is_null(normal_of(space_triangle(numbers))),
     }
 }

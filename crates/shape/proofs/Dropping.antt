@@ -12,11 +12,11 @@ use lib.IntN.{ℤ, pos, negsuc, negℤ, _+ℤ_, _*ℤ_, *ℤ-comm, *ℤ-zero, ze
 use Rattle.algebra.proofs.Expression.{Ex, var, lit, _⊞_, _⊟_, _⊠_, neg}
 use Rattle.algebra.proofs.Certificate.{Rel, Cert, _≐_, eqn, num, _⊕_, prove≡, factor-out}
 use Rattle.shape.specs.Points.{Point, Shape, coord}
-use Rattle.shape.specs.Signs.{side}
+use Rattle.shape.specs.Signs.{turn, side}
 use Rattle.shape.specs.Sharing.{total, weigh, Share}
 use Rattle.shape.specs.Flat.{Flat, isZero}
 use Rattle.shape.specs.Verdicts.{Says}
-use Rattle.shape.specs.SpaceTest.{keptFirst, keptSecond, without, normalAt, axis}
+use Rattle.shape.specs.SpaceTest.{keptFirst, keptSecond, without, axis}
 use Rattle.shape.proofs.Symbols.{values, O, point, rowE, minorE, sideE}
 use Rattle.shape.proofs.Weights.{Every, weigh-map, weigh-every, weigh-zero}
 use Rattle.shape.proofs.Apart.{functional, weigh-functional}
@@ -25,6 +25,10 @@ use Rattle.shape.proofs.Shadows.{Within, share-seen}
 use Rattle.shape.proofs.VerdictLaws.{says-yes, says-no}
 use Rattle.shape.proofs.FlatLaws.{flat-in-space, zero-says}
 use Rattle.shape.proofs.Planes.{across, offset, plane-is-side}
+
+-- Coordinate k of the normal of a, b, c: the turn of the three points without it.
+abbrev pub normalAt : ℕ → Point → Point → Point → ℤ
+normalAt k a b c = turn (without k a) (without k b) (without k c)
 
 -- ---- two points of the plane n·x + s m = 0 that agree in two coordinates agree in the third, if n is not zero there
 module _ (n0 n1 n2 m s x y z x′ y′ z′ : ℤ)

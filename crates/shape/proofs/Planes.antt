@@ -1,6 +1,6 @@
--- Planes of space: the functional along two directions, the plane of a triangle as one of them, and what lies strictly on one side
--- of it. Assumes nothing.
-use mathlib.Core.Path.{_≡_, refl}
+-- Planes of space: the functional along two directions, the plane of a triangle as one of them, its sides by its normal, and what lies
+-- strictly on one side of it. Assumes nothing.
+use mathlib.Core.Path.{_≡_, refl, ap, _∙_}
 use mathlib.Core.List.{List, [], _∷_}
 use Prim.Native.Nat.{ℕ, zero, suc}
 use native.Mathlib.Omega.{arith}
@@ -10,7 +10,8 @@ use Rattle.algebra.proofs.Expression.{Ex, _⊞_, _⊠_, neg}
 use Rattle.algebra.proofs.Solver.{ring}
 use Rattle.algebra.proofs.Certificate.{_≺_, hyp, num, prove≤, prove<}
 use Rattle.shape.specs.Points.{Point, Shape}
-use Rattle.shape.specs.Signs.{row, minor, side}
+use Rattle.shape.specs.Signs.{row, side}
+use Rattle.shape.specs.Normals.{minors, dot, normalOf}
 use Rattle.shape.specs.Sharing.{Share}
 use Rattle.shape.proofs.Symbols.{values, O, PointE, point, rowE, minorE, sideE}
 use Rattle.shape.proofs.SignLaws.{equal-points}
@@ -20,8 +21,7 @@ use Rattle.shape.proofs.Apart.{dotFrom, functional, apart}
 
 -- ---- the functional along a → b and c → d, zero at a: its numbers are those of (b - a) × (d - c)
 abbrev pub across : Point → Point → Point → Point → List ℤ
-across a b c d =
-    minor 1 2 (row b a) (row d c) ∷ minor 2 0 (row b a) (row d c) ∷ minor 0 1 (row b a) (row d c) ∷ []
+across a b c d = minors (row b a) (row d c)
 
 abbrev pub offset : Point → Point → Point → Point → ℤ
 offset a b c d = negℤ (dotFrom 0 (across a b c d) a)
@@ -39,9 +39,20 @@ abbrev pub acrossAt : ℕ → ℕ → ℕ → ℕ → ℕ → Ex
 acrossAt a b c d x = dotE (acrossE a b c d) (point x) ⊞ neg (dotE (acrossE a b c d) (point a))
 
 -- ---- the plane of a triangle
--- The functional of the plane of a, b, c is the opposite of the side value.
+abbrev productE : PointE → PointE → Ex
+productE u n = u 0 ⊠ n 0 ⊞ u 1 ⊠ n 1 ⊞ u 2 ⊠ n 2
+
+-- The side of x is the row c - x times the normal, which is the same for every x.
+pub side-by-normal : (a b c x : Point) → dot (row c x) (normalOf a b c) ≡ side a b c x
+side-by-normal a b c x = ring (values (a ∷ b ∷ c ∷ x ∷ [])) (productE (rowE (point 2) (point 3)) (acrossE 2 0 2 1)) (sideE 0 1 2 3) tt refl
+
+-- The functional of the plane has the normal's numbers, and is the opposite of the side.
 pub plane-is-side : (a b c x : Point) → functional (across c a c b) (offset c a c b) x ≡ negℤ (side a b c x)
-plane-is-side a b c x = ring (values (a ∷ b ∷ c ∷ x ∷ [])) (acrossAt 2 0 2 1 3) (neg (sideE 0 1 2 3)) tt refl
+plane-is-side a b c x =
+    ring (values (normalOf a b c ∷ c ∷ x ∷ []))
+    (dotE (point 0) (point 2) ⊞ neg (dotE (point 0) (point 1)))
+    (neg (productE (rowE (point 1) (point 2)) (point 0))) tt refl
+    ∙ ap negℤ (side-by-normal a b c x)
 
 -- The corners of a triangle are on its plane.
 pub corners-on : (a b c : Point) → Every (λ x. side a b c x ≡ pos 0) (a ∷ b ∷ c ∷ [])

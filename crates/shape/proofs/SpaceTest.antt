@@ -11,7 +11,7 @@ use Rattle.shape.specs.Signs.{side}
 use Rattle.shape.specs.Sharing.{Share}
 use Rattle.shape.specs.Flat.{Flat}
 use Rattle.shape.specs.Verdicts.{Says}
-use Rattle.shape.specs.SpaceTest.{Standing, beside, within, alone, standing, pattern, byStanding, swapped, placed, without, normalAt, axis, inPlaneTest, segmentInPlaneTest, lastSigns, crossingTest, spaceTest, segmentSpaceTest}
+use Rattle.shape.specs.SpaceTest.{Standing, beside, within, alone, standing, pattern, byStanding, swapped, placed, without, axis, inPlaneTest, segmentInPlaneTest, lastSigns, crossingTest, spaceTest, segmentSpaceTest}
 use Rattle.shape.proofs.SignLaws.{neighbours-trade, carry-past}
 use Rattle.shape.proofs.Trading.{share-trade, share-among, among-itself, share-turned, share-turned-twice, share-mirrored}
 use Rattle.shape.proofs.VerdictLaws.{says-no, says-same}
@@ -19,7 +19,7 @@ use Rattle.shape.proofs.FlatLaws.{flat-in-plane}
 use Rattle.shape.proofs.PlaneTest.{triangle-test, segment-test}
 use Rattle.shape.proofs.Standings.{Alone, alone-swapped, By, After, Fits, fits, says-by-ends}
 use Rattle.shape.proofs.Planes.{corners-on, below-plane, above-plane}
-use Rattle.shape.proofs.Dropping.{OnPlane, share-dropped, axis-stands, flat-dropped}
+use Rattle.shape.proofs.Dropping.{normalAt, OnPlane, share-dropped, axis-stands, flat-dropped}
 use Rattle.shape.proofs.SpaceLeaves.{last-signs, past-no-edge}
 
 -- ---- one plane

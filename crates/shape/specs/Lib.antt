@@ -4,6 +4,7 @@ pub mod Signs
 pub mod Sharing
 pub mod Flat
 pub mod Verdicts
+pub mod Normals
 pub mod PlaneTest
 pub mod SpaceTest
 pub mod WireTest

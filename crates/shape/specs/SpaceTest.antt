@@ -5,11 +5,10 @@ use mathlib.Core.Bool.{Bool, true, false, cond}
 use mathlib.Core.List.{List, [], _∷_}
 use Prim.Native.Nat.{ℕ, zero, suc, _+_, _*_}
 use lib.Dec.{eqb, ltb}
-use lib.IntN.{ℤ}
 use lib.ListN.{getD}
 use Rattle.shape.specs.Points.{Point, coord}
-use Rattle.shape.specs.Signs.{turn, side, sign, digit}
-use Rattle.shape.specs.Flat.{isZero}
+use Rattle.shape.specs.Signs.{side, sign, digit}
+use Rattle.shape.specs.Normals.{normalOf, axisOf}
 use Rattle.shape.specs.PlaneTest.{triangleTest, segmentTest}
 
 -- ---- the signs against a plane
@@ -78,14 +77,9 @@ keptSecond (suc (suc k)) = 1
 abbrev pub without : ℕ → Point → Point
 without k a = coord (keptFirst k) a ∷ coord (keptSecond k) a ∷ []
 
--- Coordinate k of the normal of a, b, c.
-abbrev pub normalAt : ℕ → Point → Point → Point → ℤ
-normalAt k a b c = turn (without k a) (without k b) (without k c)
-
 -- A coordinate at which the normal of a, b, c is not zero, z before y before x; 3 where there is none.
 abbrev pub axis : Point → Point → Point → ℕ
-axis a b c =
-    cond (isZero (normalAt 2 a b c)) (cond (isZero (normalAt 1 a b c)) (cond (isZero (normalAt 0 a b c)) 3 0) 1) 2
+axis a b c = axisOf (normalOf a b c)
 
 -- Two triangles in the plane of the second: the flat test, without such a coordinate.
 abbrev pub inPlaneWithout : ℕ → (p1 q1 r1 p2 q2 r2 : Point) → Bool

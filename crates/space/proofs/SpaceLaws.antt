@@ -1,4 +1,5 @@
--- What the proofs of the tests in space share: the table of standings, triangles in a new order, and coordinates dropped. Assumes nothing.
+-- What the proofs of the tests in space share: the table of standings, what a normal tells, triangles in a new order, and coordinates dropped.
+-- Assumes nothing.
 use mathlib.Core.Path.{_≡_, refl, sym, _∙_, ap, subst}
 use mathlib.Core.Bool.{Bool, true, false}
 use mathlib.Core.List.{List, [], _∷_}
@@ -6,12 +7,19 @@ use Prim.Native.Nat.{ℕ, zero, suc, _≤_}
 use native.Mathlib.Omega.{arith}
 use native.Mathlib.Decide.{ℕ-discrete}
 use lib.ListN.{length, getD}
+use lib.Dec.{eqb}
 use lib.IntN.{ℤ, natAbs}
 use Rattle.shape.specs.Points.{Point, coord, pointAt}
 use Rattle.shape.specs.Signs.{row, sign, digit}
-use Rattle.shape.specs.SpaceTest.{level, Standing, beside, standings, standing, byStanding, placed, keptFirst, keptSecond, without, lastSigns}
+use Rattle.shape.specs.Flat.{isFlat}
+use Rattle.shape.specs.Normals.{dot, normalOf, axisOf}
+use Rattle.shape.specs.SpaceTest.{level, Standing, beside, standings, standing, byStanding, placed, keptFirst, keptSecond, without, axis, lastSigns}
+use Rattle.shape.proofs.FlatLaws.{is-flat}
+use Rattle.shape.proofs.VerdictLaws.{says-fixed}
+use Rattle.shape.proofs.Planes.{side-by-normal}
+use Rattle.shape.proofs.Dropping.{axis-says}
 use Rattle.exact.specs.Grid.{limit, Ready}
-use Rattle.exact.specs.Vectors.{spatial, Sized, minorSize, dot, normalOf, normalIn}
+use Rattle.exact.specs.Vectors.{spatial, Sized, minorSize, normalIn}
 use Rattle.plane.specs.Planes.{PlaneAt, SizedTriangle}
 use Rattle.space.specs.Spaces.{SpaceAt, SizedSpace, IsNormal, ofSpace, ofSpaces, placedAs, toldStanding}
 use Rattle.plane.specs.declared.meeting.PlaneTriangle.{PlaneTriangle}
@@ -20,7 +28,7 @@ use Rattle.space.specs.declared.meeting.SpaceTriangle.{SpaceTriangle}
 use Rattle.space.specs.declared.meeting.Standing.{Standing as StandingAnswer}
 use Rattle.exact.proofs.GridLaws.{sized-point}
 use Rattle.plane.proofs.PlaneLaws.{size-at}
-use Rattle.exact.proofs.Readings.{side-by-normal, sized-normal}
+use Rattle.exact.proofs.Readings.{sized-normal}
 
 -- What is past the table of standings is beside.
 past : {A : Type 0} (l : List A) (d : A) (i : ℕ) → length l ≤ i → getD l i d ≡ d
@@ -68,11 +76,19 @@ normal-in {l} ready at e = record {
       (sized-normal (sized-point ready 3 0 refl) (sized-point ready 3 3 refl) (sized-point ready 3 6 refl));
 }
 
--- The level over a plane, by its normal.
-pub level-by-normal : (t : SpaceTriangle) {n : SpacePoint} {r : ℕ} (d : Point) → IsNormal t n →
-    r ≡ digit (sign (dot (row (spatial (t .p)) d) (spatial n))) → r ≡ ofSpace level t d
-level-by-normal t d n e =
-    e ∙ ap (λ (z : ℤ). digit (sign z)) (ap (dot (row (spatial (t .p)) d)) (n .is) ∙ side-by-normal (spatial (t .p)) (spatial (t .q)) (spatial (t .r)) d)
+-- What the normal of a triangle tells: levels over its plane, the coordinate to drop, whether it is flat.
+module _ (t : SpaceTriangle) {n : SpacePoint} (normal : IsNormal t n) where
+  pub level-by-normal : {r : ℕ} (d : Point) → r ≡ digit (sign (dot (row (spatial (t .r)) d) (spatial n))) → r ≡ ofSpace level t d
+  level-by-normal d e =
+      e ∙ ap (λ (z : ℤ). digit (sign z)) (ap (dot (row (spatial (t .r)) d)) (normal .is) ∙ side-by-normal (spatial (t .p)) (spatial (t .q)) (spatial (t .r)) d)
+
+  pub axis-by-normal : {r : ℕ} → r ≡ axisOf (spatial n) → r ≡ ofSpace axis t
+  axis-by-normal e = e ∙ ap axisOf (normal .is)
+
+  pub flat-by-normal : {r : Bool} → r ≡ eqb (axisOf (spatial n)) 3 → r ≡ isFlat 3 (spatial (t .p) ∷ spatial (t .q) ∷ spatial (t .r) ∷ [])
+  flat-by-normal e =
+      e ∙ ap (λ (k : ℕ). eqb k 3) (axis-by-normal refl)
+      ∙ says-fixed (axis-says (spatial (t .p)) (spatial (t .q)) (spatial (t .r))) (is-flat 3 (spatial (t .p) ∷ spatial (t .q) ∷ spatial (t .r) ∷ []))
 
 -- ---- a new order of the corners
 pub sized-placed : (turns : ℕ) (swap : Bool) {n : ℕ} {t u : SpaceTriangle} → u ≡ placedAs turns swap t → SizedSpace n t → SizedSpace n u

@@ -4,8 +4,9 @@ use mathlib.Core.Path.{_≡_}
 use mathlib.Core.Bool.{Bool}
 use Prim.Native.Nat.{ℕ}
 use Rattle.shape.specs.Points.{Point}
+use Rattle.shape.specs.Normals.{normalOf}
 use Rattle.shape.specs.SpaceTest.{Standing, beside, within, alone, placed}
-use Rattle.exact.specs.Vectors.{spatial, Sized, minorSize, normalOf}
+use Rattle.exact.specs.Vectors.{spatial, Sized, minorSize}
 use Rattle.exact.specs.declared.determinant.SpacePoint.{SpacePoint}
 use Rattle.space.specs.declared.meeting.SpaceTriangle.{SpaceTriangle}
 use Rattle.space.specs.declared.meeting.Standing.{Standing as StandingAnswer}

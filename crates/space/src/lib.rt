@@ -4,7 +4,7 @@
 mod meeting;
 
 pub use meeting::SpaceTriangle;
-pub use meeting::axis_of;
+pub use meeting::is_null;
 pub use meeting::normal_of;
 pub use meeting::segment_meets_space;
 pub use meeting::space_triangle;

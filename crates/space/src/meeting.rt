@@ -6,15 +6,16 @@ use exact::level_at;
 use exact::level_over;
 use exact::normal_at;
 use exact::space_point;
-use exact::turn_at;
 use plane::PlaneTriangle;
 use plane::planes_meet;
 use plane::segment_meets_plane;
 ghost use mathlib.Core.Path.{_≡_};
+ghost use lib.Dec.{eqb};
 ghost use Rattle.shape.specs.Points.{pointAt};
-ghost use Rattle.shape.specs.SpaceTest.{pattern, standing, without, normalAt, axis, inPlaneTest, lastSigns, crossingTest, spaceTest, pastNoEdge, segmentSpaceTest};
+ghost use Rattle.shape.specs.Normals.{axisOf};
+ghost use Rattle.shape.specs.SpaceTest.{level, pattern, standing, without, inPlaneTest, lastSigns, crossingTest, spaceTest, pastNoEdge, segmentSpaceTest};
 ghost use Rattle.exact.specs.Grid.{limit, Ready};
-ghost use Rattle.exact.specs.Vectors.{planar, spatial, Sized};
+ghost use Rattle.exact.specs.Vectors.{planar, spatial, Sized, minorSize};
 ghost use Rattle.plane.specs.Planes.{PlaneAt};
 ghost use Rattle.space.specs.Spaces.{SpaceAt, SizedSpace, IsNormal, placedAs, ofSpace, ofSpaces, toldStanding};
 
@@ -60,7 +61,7 @@ fn pattern_of(t: SpaceTriangle, u: SpaceTriangle, n: SpacePoint) -> u32
     requires { ⌜ SizedSpace limit t × SizedSpace limit u × IsNormal u n ⌝ }
     ensures { λ r. ⌜ r ≡ ofSpaces pattern t u ⌝ }
 {
-    9 * level_over(u.p, n, t.p) + 3 * level_over(u.p, n, t.q) + level_over(u.p, n, t.r)
+    9 * level_over(u.r, n, t.p) + 3 * level_over(u.r, n, t.q) + level_over(u.r, n, t.r)
 }
 
 // The standing that a pattern names. A digit is 0 for a corner below the plane, 1 on it, 2 above it, and the first corner's counts
@@ -132,38 +133,37 @@ fn dropped(k: u32, t: SpaceTriangle) -> PlaneTriangle
     }
 }
 
-// Coordinate k of the normal of a triangle.
-fn normal_along(k: u32, t: SpaceTriangle) -> i64
-    requires { ⌜ SizedSpace limit t ⌝ }
-    ensures { λ r. ⌜ r ≡ ofSpace (normalAt k) t ⌝ }
+// A coordinate at which a normal is not zero; 3 where there is none.
+fn axis_of(n: SpacePoint) -> u32
+    requires { ⌜ Sized minorSize (spatial n) ⌝ }
+    ensures { λ r. ⌜ r ≡ axisOf (spatial n) ⌝ }
 {
-    let seen = dropped(k, t);
-    turn_at(seen.p, seen.q, seen.r)
-}
-
-// A coordinate at which the normal of a triangle is not zero; 3 where there is none, so that the triangle is flat.
-pub fn axis_of(t: SpaceTriangle) -> u32
-    requires { ⌜ SizedSpace limit t ⌝ }
-    ensures { λ r. ⌜ r ≡ ofSpace axis t ⌝ }
-{
-    if normal_along(2, t) != 0 {
+    if n.z != 0 {
         return 2;
     }
-    if normal_along(1, t) != 0 {
+    if n.y != 0 {
         return 1;
     }
-    if normal_along(0, t) != 0 {
+    if n.x != 0 {
         return 0;
     }
     3
 }
 
-// Two triangles in the plane of the second.
-fn meet_in_plane(t: SpaceTriangle, u: SpaceTriangle) -> bool
-    requires { ⌜ SizedSpace limit t × SizedSpace limit u ⌝ }
+// Whether a normal is zero: exactly then its triangle is flat.
+pub fn is_null(n: SpacePoint) -> bool
+    requires { ⌜ Sized minorSize (spatial n) ⌝ }
+    ensures { λ r. ⌜ r ≡ eqb (axisOf (spatial n)) 3 ⌝ }
+{
+    axis_of(n) == 3
+}
+
+// Two triangles in the plane of the second, whose normal is n.
+fn meet_in_plane(t: SpaceTriangle, u: SpaceTriangle, n: SpacePoint) -> bool
+    requires { ⌜ SizedSpace limit t × SizedSpace limit u × IsNormal u n ⌝ }
     ensures { λ r. ⌜ r ≡ ofSpaces inPlaneTest t u ⌝ }
 {
-    let k = axis_of(u);
+    let k = axis_of(n);
     planes_meet(dropped(k, t), dropped(k, u))
 }
 
@@ -187,7 +187,7 @@ fn crossing(t: SpaceTriangle, m: SpacePoint, u: SpaceTriangle, turns: u32, swap:
 {
     match standing_of(pattern_of(u, t, m)) {
         Standing::Beside => false,
-        Standing::Within => meet_in_plane(u, t),
+        Standing::Within => meet_in_plane(u, t, m),
         Standing::Alone(other_turns, other_swap) => {
             last_signs(placed(t, turns, other_swap), placed(u, other_turns, swap))
         }
@@ -201,7 +201,7 @@ pub fn spaces_meet(t: SpaceTriangle, m: SpacePoint, u: SpaceTriangle, n: SpacePo
 {
     match standing_of(pattern_of(t, u, n)) {
         Standing::Beside => false,
-        Standing::Within => meet_in_plane(t, u),
+        Standing::Within => meet_in_plane(t, u, n),
         Standing::Alone(turns, swap) => crossing(t, m, u, turns, swap),
     }
 }
@@ -222,16 +222,21 @@ fn past_no_edge(p: SpacePoint, q: SpacePoint, t: SpaceTriangle) -> bool
     level_at(p, q, t.r, t.p) != 2
 }
 
-// Whether a segment and a triangle that is not flat have a point in common.
-pub fn segment_meets_space(p: SpacePoint, q: SpacePoint, t: SpaceTriangle) -> bool
-    requires { ⌜ Sized limit (spatial p) × Sized limit (spatial q) × SizedSpace limit t ⌝ }
+// The verdict on the segment p q, whose ends are at the levels i and j over the plane of t, whose normal is n.
+fn segment_by_levels(
+    p: SpacePoint,
+    i: u32,
+    q: SpacePoint,
+    j: u32,
+    t: SpaceTriangle,
+    n: SpacePoint,
+) -> bool
+    requires { ⌜ Sized limit (spatial p) × Sized limit (spatial q) × SizedSpace limit t × IsNormal t n × (i ≡ ofSpace level t (spatial p)) × (j ≡ ofSpace level t (spatial q)) ⌝ }
     ensures { λ r. ⌜ r ≡ ofSpace (segmentSpaceTest (spatial p) (spatial q)) t ⌝ }
 {
-    let at_p = level_at(t.p, t.q, t.r, p);
-    let at_q = level_at(t.p, t.q, t.r, q);
-    if at_p == at_q {
-        if at_p == 1 {
-            let k = axis_of(t); // the segment is in the triangle's plane
+    if i == j {
+        if i == 1 {
+            let k = axis_of(n); // the segment is in the triangle's plane
             return segment_meets_plane(
                 without_coordinate(k, p),
                 without_coordinate(k, q),
@@ -240,8 +245,18 @@ pub fn segment_meets_space(p: SpacePoint, q: SpacePoint, t: SpaceTriangle) -> bo
         }
         return false;
     }
-    if at_p < at_q {
+    if i < j {
         return past_no_edge(q, p, t);
     }
     past_no_edge(p, q, t)
+}
+
+// Whether a segment and a triangle that is not flat, whose normal is n, have a point in common.
+pub fn segment_meets_space(p: SpacePoint, q: SpacePoint, t: SpaceTriangle, n: SpacePoint) -> bool
+    requires { ⌜ Sized limit (spatial p) × Sized limit (spatial q) × SizedSpace limit t × IsNormal t n ⌝ }
+    ensures { λ r. ⌜ r ≡ ofSpace (segmentSpaceTest (spatial p) (spatial q)) t ⌝ }
+{
+    let at_p = level_over(t.r, n, p);
+    let at_q = level_over(t.r, n, q);
+    segment_by_levels(p, at_p, q, at_q, t, n)
 }

@@ -1,2 +1,2 @@
--- What the proofs of several functions share: numbers read, points of the grid, and the triangles that their normals tell flat. Assumes nothing.
+-- What the proofs of several functions share: numbers read, and points of the grid. Assumes nothing.
 pub mod WireLaws

@@ -1,9 +1,8 @@
 -- The vocabulary of the leaves in src/segments.rt and src/triangles.rt: parts of the decisions of crate `shape` (specs/WireTest.antt) that have a
 -- function each, and points of the grid.
-use mathlib.Core.Bool.{Bool, false, cond}
-use Prim.Native.Nat.{ℕ}
+use mathlib.Core.Bool.{Bool}
 use Rattle.shape.specs.Points.{Point, coord}
-use Rattle.shape.specs.Flat.{isZero, allBelow}
+use Rattle.shape.specs.Flat.{allBelow}
 use Rattle.shape.specs.WireTest.{stretchesMeet, shadowsMeet, eitherEdge, segmentTriangleTest}
 use Rattle.exact.specs.Grid.{limit}
 use Rattle.exact.specs.Vectors.{Sized}
@@ -22,10 +21,6 @@ alongMeet p q u v = allBelow 3 (λ k. stretchesMeet (coord k p) (coord k q) (coo
 -- Their shadows meet without each coordinate.
 abbrev pub shadowsAll : (p q u v : Point) → Bool
 shadowsAll p q u v = allBelow 3 (λ k. shadowsMeet k p q u v)
-
--- Whether a vector is zero.
-abbrev pub isNull : Point → Bool
-isNull n = cond (isZero (coord 0 n)) (cond (isZero (coord 1 n)) (isZero (coord 2 n)) false) false
 
 -- One of two edges of the first triangle meets the second.
 abbrev pub edgeMeets : (p1 q1 r1 p2 q2 r2 : Point) → Bool

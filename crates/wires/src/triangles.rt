@@ -2,28 +2,15 @@
 use crate::segments::segments_meet;
 use exact::SpacePoint;
 use space::SpaceTriangle;
+use space::is_null;
 use space::segment_meets_space;
 use space::spaces_meet;
 ghost use mathlib.Core.Path.{_≡_};
 ghost use Rattle.shape.specs.WireTest.{segmentsTest, eitherEdge, segmentTriangleTest, trianglesTest};
 ghost use Rattle.exact.specs.Grid.{limit};
-ghost use Rattle.exact.specs.Vectors.{spatial, Sized, minorSize};
+ghost use Rattle.exact.specs.Vectors.{spatial, Sized};
 ghost use Rattle.space.specs.Spaces.{SizedSpace, IsNormal, ofSpace, ofSpaces};
-ghost use Rattle.wires.specs.Wires.{isNull, edgeMeets};
-
-// Whether a vector is zero. The normal of a triangle is exactly where the triangle is flat.
-fn is_null(n: SpacePoint) -> bool
-    requires { ⌜ Sized minorSize (spatial n) ⌝ }
-    ensures { λ r. ⌜ r ≡ isNull (spatial n) ⌝ }
-{
-    if n.x != 0 {
-        return false;
-    }
-    if n.y != 0 {
-        return false;
-    }
-    n.z == 0
-}
+ghost use Rattle.wires.specs.Wires.{edgeMeets};
 
 // Whether one of two edges of a triangle, which are the whole of it where it is flat, meets a segment.
 fn edge_meets_segment(p: SpacePoint, q: SpacePoint, t: SpaceTriangle) -> bool
@@ -44,7 +31,7 @@ pub fn segment_meets_any(p: SpacePoint, q: SpacePoint, t: SpaceTriangle, n: Spac
     if is_null(n) {
         return edge_meets_segment(p, q, t);
     }
-    segment_meets_space(p, q, t)
+    segment_meets_space(p, q, t, n)
 }
 
 // Whether one of two edges of the triangle t meets the triangle u, whose normal is n.

@@ -1,7 +1,7 @@
 -- `exact::determinant::normal_at` meets its contract: the minors of the two rows. Assumes nothing.
 use mathlib.Core.Path.{_∙_}
 use borrow.Author.Needs.{needs}
-use Rattle.exact.specs.Vectors.{minors}
+use Rattle.shape.specs.Normals.{minors}
 use Rattle.exact.proofs.determinant.normal_at.Statement.{statement}
 use Rattle.exact.proofs.determinant.normal_at.Tie as tie
 

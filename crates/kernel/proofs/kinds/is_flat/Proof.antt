@@ -1,23 +1,18 @@
 -- `kernel::kinds::is_flat` meets its contract: a kind at a time. Assumes nothing.
 use borrow.Author.Needs.{needs}
-use mathlib.Core.Path.{_≡_, refl, sym, ap, subst, _∙_}
+use mathlib.Core.Path.{_≡_, sym, ap, subst, _∙_}
 use mathlib.Core.Bool.{Bool}
-use mathlib.Core.List.{List}
-use Prim.Native.Nat.{ℕ, _*_}
-use lib.Dec.{eqb}
+use mathlib.Core.List.{List, [], _∷_}
+use Prim.Native.Nat.{_*_}
 use lib.IntN.{ℤ}
 use Rattle.shape.specs.Points.{pointAt, pointsAt}
-use Rattle.shape.specs.SpaceTest.{axis}
 use Rattle.shape.specs.Flat.{isFlat}
-use Rattle.shape.proofs.FlatLaws.{is-flat, is-flat-in-plane}
-use Rattle.shape.proofs.VerdictLaws.{says-fixed}
-use Rattle.shape.proofs.Dropping.{axis-says}
+use Rattle.shape.proofs.FlatLaws.{is-flat-in-plane}
 use Rattle.exact.specs.Grid.{Ready}
 use Rattle.kernel.specs.Kinds.{coordinatesOf}
 use Rattle.kernel.specs.declared.kinds.Kind.{Kind}
-use Rattle.exact.proofs.GridLaws.{sized-point}
 use Rattle.exact.proofs.Readings.{zero-kept-test}
-use Rattle.space.proofs.SpaceLaws.{space-size-at, space-at}
+use Rattle.space.proofs.SpaceLaws.{sized-triangle, space-at, flat-by-normal}
 use Rattle.kernel.proofs.kinds.is_flat.Statement.{statement}
 use Rattle.kernel.proofs.kinds.is_flat.Tie as tie
 
@@ -45,11 +40,13 @@ space-triangle-requires c κs =
     let p = c .before .before in
     ready-as (p .args .numbers .now) (c .enum-told2 .given .1) (p .pre)
 
-axis-of-requires : tie.Need-axis-of-requires
-axis-of-requires c κs =
+normal-of-requires : tie.Need-normal-of-requires
+normal-of-requires c κs =
     let p = c .before .before .before in
-    let ready = ready-as (p .args .numbers .now) (c .before .enum-told2 .given .1) (p .pre) in
-    space-size-at (c .space-triangle .ensures) (sized-point ready 3 0 refl) (sized-point ready 3 3 refl) (sized-point ready 3 6 refl)
+    sized-triangle (ready-as (p .args .numbers .now) (c .before .enum-told2 .given .1) (p .pre)) (c .space-triangle .ensures)
+
+is-null-requires : tie.Need-is-null-requires
+is-null-requires c κs = c .normal-of .ensures .small
 
 returns : tie.Need-returns
 returns c =
@@ -60,10 +57,12 @@ returns c =
 
 returns-2 : tie.Need-returns-2
 returns-2 c =
-    let p = c .before .before .before .before in
-    ap (λ (n : ℕ). eqb n 3) (c .axis-of .ensures ∙ space-at (c .before .space-triangle .ensures) axis)
-    ∙ says-fixed (axis-says (pointAt 3 0 (p .args .numbers .now)) (pointAt 3 3 (p .args .numbers .now)) (pointAt 3 6 (p .args .numbers .now))) (is-flat 3 (pointsAt 3 3 0 (p .args .numbers .now)))
-    ∙ sym (ap (λ (k : Kind). flatAs k (p .args .numbers .now)) (c .before .before .enum-told2 .given .1))
+    let n = c .before in
+    let t = n .before in
+    let p = t .before .before .before in
+    flat-by-normal (t .space-triangle .result) (n .normal-of .ensures) (c .is-null .ensures)
+    ∙ space-at (t .space-triangle .ensures) (λ a b c. isFlat 3 (a ∷ b ∷ c ∷ []))
+    ∙ sym (ap (λ (k : Kind). flatAs k (p .args .numbers .now)) (t .before .enum-told2 .given .1))
 
 pub is-flat-spec : {M : Type 1} → statement M
 is-flat-spec =
@@ -73,6 +72,7 @@ is-flat-spec =
     turn-of-requires
     enum-told-2
     space-triangle-requires
-    axis-of-requires
+    normal-of-requires
+    is-null-requires
     returns
     returns-2)

@@ -2,7 +2,7 @@
 use mathlib.Core.Path.{_∙_}
 use mathlib.Core.List.{[], _∷_}
 use borrow.Author.Needs.{needs}
-use Rattle.exact.specs.Vectors.{normalOf}
+use Rattle.shape.specs.Normals.{normalOf}
 use Rattle.exact.proofs.Readings.{coordinate, all-stored}
 use Rattle.space.proofs.SpaceLaws.{sized-triangle, space-at}
 use Rattle.kernel.proofs.meeting.put_normal.Statement.{statement}

@@ -6,7 +6,7 @@ use Prim.Native.Nat.{ℕ}
 use Rattle.shape.specs.PlaneTest.{triangleTest}
 use Rattle.shape.specs.SpaceTest.{inPlaneWithout}
 use Rattle.space.specs.Spaces.{ofSpaces}
-use Rattle.space.proofs.SpaceLaws.{sized-dropped}
+use Rattle.space.proofs.SpaceLaws.{axis-by-normal, sized-dropped}
 use Rattle.space.proofs.meeting.meet_in_plane.Statement.{statement}
 use Rattle.space.proofs.meeting.meet_in_plane.Tie as tie
 
@@ -32,7 +32,7 @@ returns c =
     let u = c .before .dropped2 .ensures in
     c .planes-meet .ensures
     ∙ (λ i. triangleTest (t .at-p i) (t .at-q i) (t .at-r i) (u .at-p i) (u .at-q i) (u .at-r i))
-    ∙ ap (λ (k : ℕ). ofSpaces (inPlaneWithout k) (p .args .t) (p .args .u)) (c .before .before .before .axis-of .ensures)
+    ∙ ap (λ (k : ℕ). ofSpaces (inPlaneWithout k) (p .args .t) (p .args .u)) (axis-by-normal (p .args .u) (p .pre .2) (c .before .before .before .axis-of .ensures))
 
 pub meet-in-plane-spec : {M : Type 1} → statement M
 meet-in-plane-spec =

@@ -32,9 +32,9 @@ returns c =
     let p = c .before .before .before in
     let a = p .args in
     let n = p .pre .2 in
-    let x = level-by-normal (a .u) (spatial (a .t .p)) n (c .before .before .level-over .ensures .0) in
-    let y = level-by-normal (a .u) (spatial (a .t .q)) n (c .before .level-over2 .ensures .0) in
-    let z = level-by-normal (a .u) (spatial (a .t .r)) n (c .level-over3 .ensures .0) in
+    let x = level-by-normal (a .u) n (spatial (a .t .p)) (c .before .before .level-over .ensures .0) in
+    let y = level-by-normal (a .u) n (spatial (a .t .q)) (c .before .level-over2 .ensures .0) in
+    let z = level-by-normal (a .u) n (spatial (a .t .r)) (c .level-over3 .ensures .0) in
     λ i. 9 * x i + 3 * y i + z i
 
 pub pattern-of-spec : {M : Type 1} → statement M

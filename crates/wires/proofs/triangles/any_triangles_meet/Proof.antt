@@ -1,7 +1,7 @@
 -- `wires::triangles::any_triangles_meet` meets its contract: the normals tell which triangles are flat. Assumes nothing.
 use borrow.Author.Needs.{needs}
 use Rattle.exact.proofs.Branches.{if-taken, if-left}
-use Rattle.wires.proofs.WireLaws.{null-is-flat}
+use Rattle.space.proofs.SpaceLaws.{flat-by-normal}
 use Rattle.wires.proofs.triangles.any_triangles_meet.Statement.{statement}
 use Rattle.wires.proofs.triangles.any_triangles_meet.Tie as tie
 
@@ -17,7 +17,7 @@ returns : tie.Need-returns
 returns c =
     let t = c .before in
     let p = t .before .before in
-    if-taken _ _ (null-is-flat (p .args .t) (p .pre .2) (t .before .is-null .ensures)) (t .if1 .taken) (c .edge-meets .ensures)
+    if-taken _ _ (flat-by-normal (p .args .t) (p .pre .2) (t .before .is-null .ensures)) (t .if1 .taken) (c .edge-meets .ensures)
 
 is-null-requires-2 : tie.Need-is-null-requires-2
 is-null-requires-2 c κs = c .before .before .pre .3 .small
@@ -32,8 +32,8 @@ returns-2 c =
     let t2 = c .before in
     let t1 = t2 .before .before in
     let p = t1 .before .before in
-    if-left _ _ (null-is-flat (p .args .t) (p .pre .2) (t1 .before .is-null .ensures)) (t1 .if1 .left)
-    (if-taken _ _ (null-is-flat (p .args .u) (p .pre .3) (t2 .before .is-null2 .ensures)) (t2 .if2 .taken) (c .edge-meets2 .ensures))
+    if-left _ _ (flat-by-normal (p .args .t) (p .pre .2) (t1 .before .is-null .ensures)) (t1 .if1 .left)
+    (if-taken _ _ (flat-by-normal (p .args .u) (p .pre .3) (t2 .before .is-null2 .ensures)) (t2 .if2 .taken) (c .edge-meets2 .ensures))
 
 spaces-meet-requires : tie.Need-spaces-meet-requires
 spaces-meet-requires c κs = search needs
@@ -43,8 +43,8 @@ returns-3 c =
     let t2 = c .before in
     let t1 = t2 .before .before in
     let p = t1 .before .before in
-    if-left _ _ (null-is-flat (p .args .t) (p .pre .2) (t1 .before .is-null .ensures)) (t1 .if1 .left)
-    (if-left _ _ (null-is-flat (p .args .u) (p .pre .3) (t2 .before .is-null2 .ensures)) (t2 .if2 .left) (c .spaces-meet .ensures))
+    if-left _ _ (flat-by-normal (p .args .t) (p .pre .2) (t1 .before .is-null .ensures)) (t1 .if1 .left)
+    (if-left _ _ (flat-by-normal (p .args .u) (p .pre .3) (t2 .before .is-null2 .ensures)) (t2 .if2 .left) (c .spaces-meet .ensures))
 
 pub any-triangles-meet-spec : {M : Type 1} → statement M
 any-triangles-meet-spec =

@@ -1,7 +1,7 @@
 -- `wires::triangles::segment_meets_any` meets its contract: the normal tells whether the triangle is flat. Assumes nothing.
 use borrow.Author.Needs.{needs}
 use Rattle.exact.proofs.Branches.{if-taken, if-left}
-use Rattle.wires.proofs.WireLaws.{null-is-flat}
+use Rattle.space.proofs.SpaceLaws.{flat-by-normal}
 use Rattle.wires.proofs.triangles.segment_meets_any.Statement.{statement}
 use Rattle.wires.proofs.triangles.segment_meets_any.Tie as tie
 
@@ -15,7 +15,7 @@ returns : tie.Need-returns
 returns c =
     let t = c .before in
     let p = t .before .before in
-    if-taken _ _ (null-is-flat (p .args .t) (p .pre .3) (t .before .is-null .ensures)) (t .if1 .taken) (c .edge-meets-segment .ensures)
+    if-taken _ _ (flat-by-normal (p .args .t) (p .pre .3) (t .before .is-null .ensures)) (t .if1 .taken) (c .edge-meets-segment .ensures)
 
 segment-meets-space-requires : tie.Need-segment-meets-space-requires
 segment-meets-space-requires c κs = search needs
@@ -24,7 +24,7 @@ returns-2 : tie.Need-returns-2
 returns-2 c =
     let t = c .before in
     let p = t .before .before in
-    if-left _ _ (null-is-flat (p .args .t) (p .pre .3) (t .before .is-null .ensures)) (t .if1 .left) (c .segment-meets-space .ensures)
+    if-left _ _ (flat-by-normal (p .args .t) (p .pre .3) (t .before .is-null .ensures)) (t .if1 .left) (c .segment-meets-space .ensures)
 
 pub segment-meets-any-spec : {M : Type 1} → statement M
 segment-meets-any-spec =
