@@ -122,7 +122,7 @@ fn side_over(c: SpacePoint, normal: SpacePoint, d: SpacePoint) -> i64
     dot_of(row_of(c, d), normal)
 }
 
-// [a,b,c,d], definition 2.2: the determinant whose rows are a - d, b - d, c - d.
+// [a,b,c,d], definition 2.2: the determinant whose rows are a - d, b - d, c - d, by the normal of a, b, c.
 pub fn side_at(a: SpacePoint, b: SpacePoint, c: SpacePoint, d: SpacePoint) -> i64
     requires { ⌜ Sized limit (spatial a) × Sized limit (spatial b) × Sized limit (spatial c) × Sized limit (spatial d) ⌝ }
     ensures { λ r. ⌜ r ≡ side (spatial a) (spatial b) (spatial c) (spatial d) ⌝ }
