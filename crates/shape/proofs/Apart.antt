@@ -14,7 +14,7 @@ use Rattle.algebra.proofs.Order.{0<-pos, one-le, sub-pos}
 use Rattle.algebra.proofs.Certificate.{_≦_, _≺_, hyp, num, _⊕_, prove≤, prove⊥}
 use Rattle.shape.specs.Points.{Point, Shape, coord}
 use Rattle.shape.specs.Sharing.{weigh, PointOf, Share}
-use Rattle.shape.proofs.Weights.{Every, weigh-add, weigh-scale, weigh-const, weigh-zero, weigh-le}
+use Rattle.shape.proofs.Weights.{Every, every-so, weigh-add, weigh-scale, weigh-const, weigh-zero, weigh-le}
 
 -- c·a, the first number of c going with coordinate i.
 abbrev pub dotFrom : ℕ → List ℤ → Point → ℤ
@@ -56,16 +56,12 @@ module _ {n : ℕ} {P : Shape} {s : ℕ} {x : Point} (p : PointOf n P s x) where
       (subst (λ (z : ℤ). z ≤ℤ weigh (functional cs m) (p .weights) P) (weigh-const (pos 1) (p .weights) P (p .each) ∙ ap (λ (t : ℕ). pos t *ℤ pos 1) (p .sum))
       (weigh-le (λ a. pos 1) (functional cs m) (p .weights) P h))
 
-every-one : (f : Point → ℤ) (Q : Shape) → Every (λ a. pos 0 <ℤ f a) Q → Every (λ a. pos 1 ≤ℤ f a) Q
-every-one f [] h = tt
-every-one f (a ∷ Q) h = (one-le (h .0), every-one f Q (h .1))
-
 pub apart : {n : ℕ} {P Q : Shape} (cs : List ℤ) (m : ℤ) → length cs ≤ n →
     Every (λ a. functional cs m a ≤ℤ pos 0) P → Every (λ a. pos 0 <ℤ functional cs m a) Q → Share n P Q → ⊥
 apart {Q} cs m l below above h =
     clash (dotFrom 0 cs (h .x) +ℤ pos (h .s) *ℤ m) (pos (h .s))
     (low-point (h .of-first) cs m l below)
-    (high-point (h .of-second) cs m l (every-one (functional cs m) Q above))
+    (high-point (h .of-second) cs m l (every-so (λ a. one-le) Q above))
     (0<-pos (h .s) (h .of-first .some))
   where
     clash : (z s : ℤ) → z ≤ℤ pos 0 → (s *ℤ pos 1) ≤ℤ z → pos 0 <ℤ s → ⊥

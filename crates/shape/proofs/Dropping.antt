@@ -8,7 +8,7 @@ use Prim.Native.Nat.{ℕ, zero, suc, _+_, _<_}
 use native.Mathlib.Omega.{arith}
 use lib.Dec.{eqb}
 use lib.ListN.{length, length-map}
-use lib.IntN.{ℤ, pos, negsuc, negℤ, _+ℤ_, _*ℤ_, *ℤ-comm, *ℤ-zero, zero-*ℤ}
+use lib.IntN.{ℤ, pos, negsuc, _+ℤ_, _*ℤ_, *ℤ-comm, *ℤ-zero, zero-*ℤ}
 use Rattle.algebra.proofs.Expression.{Ex, var, lit, _⊞_, _⊟_, _⊠_, neg}
 use Rattle.algebra.proofs.Certificate.{Rel, Cert, _≐_, eqn, num, _⊕_, prove≡, factor-out}
 use Rattle.shape.specs.Points.{Point, Shape, coord}
@@ -18,13 +18,13 @@ use Rattle.shape.specs.Flat.{Flat, isZero}
 use Rattle.shape.specs.Verdicts.{Says}
 use Rattle.shape.specs.SpaceTest.{keptFirst, keptSecond, without, axis}
 use Rattle.shape.proofs.Symbols.{values, O, point, rowE, minorE, sideE}
-use Rattle.shape.proofs.Weights.{Every, weigh-map, weigh-every, weigh-zero}
+use Rattle.shape.proofs.Weights.{Every, every-so, weigh-map, weigh-every, weigh-zero}
 use Rattle.shape.proofs.Apart.{functional, weigh-functional}
 use Rattle.shape.proofs.Meeting.{CommonWeights, share-is-weights, pointWith, coord-pointWith}
 use Rattle.shape.proofs.Shadows.{Within, share-seen}
 use Rattle.shape.proofs.VerdictLaws.{says-yes, says-no}
 use Rattle.shape.proofs.FlatLaws.{flat-in-space, zero-says}
-use Rattle.shape.proofs.Planes.{across, offset, plane-is-side}
+use Rattle.shape.proofs.Planes.{across, offset, zero-on-plane}
 
 -- Coordinate k of the normal of a, b, c: the turn of the three points without it.
 abbrev pub normalAt : ℕ → Point → Point → Point → ℤ
@@ -71,10 +71,6 @@ kept-below (suc (suc k)) = (omega arith, (omega arith, tt))
 
 module _ (k : ℕ) (P Q : Shape) where
   module _ (a b c : Point) (on-P : Every (OnPlane a b c) P) (on-Q : Every (OnPlane a b c) Q) where
-    zero-on : (R : Shape) → Every (OnPlane a b c) R → Every (λ x. functional (across c a c b) (offset c a c b) x ≡ pos 0) R
-    zero-on [] g = tt
-    zero-on (x ∷ R) g = (plane-is-side a b c x ∙ ap negℤ (g .0), zero-on R (g .1))
-
     module _ (h : CommonWeights 2 (map (without k) P) (map (without k) Q)) where
       us-each : length (h .us) ≡ length P
       us-each = h .us-each ∙ length-map P (without k)
@@ -100,7 +96,7 @@ module _ (k : ℕ) (P Q : Shape) where
           sym (weigh-functional {n = 3} {P = P} {s = total (h .us)} {x = pointWith 3 X}
           (record { weights = h .us; each = us-each; sum = refl; some = h .some; mixed = λ i l. sym (coord-pointWith 3 X i l) })
           (across c a c b) m (omega arith))
-          ∙ weigh-every (functional (across c a c b) m) (λ x. pos 0) (h .us) P (zero-on P on-P)
+          ∙ weigh-every (functional (across c a c b) m) (λ x. pos 0) (h .us) P (every-so (zero-on-plane a b c) P on-P)
           ∙ weigh-zero (h .us) P
 
       there : n 0 *ℤ Y 0 +ℤ (n 1 *ℤ Y 1 +ℤ (n 2 *ℤ Y 2 +ℤ pos 0)) +ℤ pos (total (h .us)) *ℤ m ≡ pos 0
@@ -108,7 +104,7 @@ module _ (k : ℕ) (P Q : Shape) where
           sym (weigh-functional {n = 3} {P = Q} {s = total (h .us)} {x = pointWith 3 Y}
           (record { weights = h .ws; each = ws-each; sum = sym (h .same); some = h .some; mixed = λ i l. sym (coord-pointWith 3 Y i l) })
           (across c a c b) m (omega arith))
-          ∙ weigh-every (functional (across c a c b) m) (λ x. pos 0) (h .ws) Q (zero-on Q on-Q)
+          ∙ weigh-every (functional (across c a c b) m) (λ x. pos 0) (h .ws) Q (every-so (zero-on-plane a b c) Q on-Q)
           ∙ weigh-zero (h .ws) Q
 
       by-axis : (d : ℕ) → (n d ≡ pos 0 → ⊥) → X (keptFirst d) ≡ Y (keptFirst d) → X (keptSecond d) ≡ Y (keptSecond d) → (i : ℕ) → i < 3 → X i ≡ Y i

@@ -13,7 +13,7 @@ use Rattle.shape.specs.Points.{Point, Shape, coord}
 use Rattle.shape.specs.Signs.{turn}
 use Rattle.shape.specs.Sharing.{Share}
 use Rattle.shape.proofs.Symbols.{values, O, point, turnE}
-use Rattle.shape.proofs.Weights.{Every}
+use Rattle.shape.proofs.Weights.{Every, every-so}
 use Rattle.shape.proofs.Apart.{functional, apart}
 
 -- c lies strictly right of a → b; it does not; it lies strictly left, so that a, b, c turn left; it does not.
@@ -112,7 +112,7 @@ module _ (u v a b c : Point) (left : Left a b c) (past : Right c a u) (back : No
 -- ---- apart by a line
 -- No corner of P lies strictly right of a → b, every corner of Q does: no common point.
 pub beside-line : (a b : Point) (P Q : Shape) → Every (NotRight a b) P → Every (Right a b) Q → Share 2 P Q → ⊥
-beside-line a b P Q near far = apart cs m (omega arith) (below P near) (above Q far)
+beside-line a b P Q near far = apart cs m (omega arith) (every-so below P near) (every-so above Q far)
   where
     cs : List ℤ
     cs = (coord 1 b -ℤ coord 1 a) ∷ (coord 0 a -ℤ coord 0 b) ∷ []
@@ -125,13 +125,11 @@ beside-line a b P Q near far = apart cs m (omega arith) (below P near) (above Q 
     opposite =
         (point 1 1 ⊟ point 0 1) ⊠ point 2 0 ⊞ ((point 0 0 ⊟ point 1 0) ⊠ point 2 1 ⊞ O) ⊞ (point 0 1 ⊠ point 1 0 ⊟ point 0 0 ⊠ point 1 1)
 
-    below : (R : Shape) → Every (NotRight a b) R → Every (λ x. functional cs m x ≤ℤ pos 0) R
-    below [] h = tt
-    below (x ∷ R) h = (prove≤ (values (a ∷ b ∷ x ∷ [])) (notRightE 0 1 2 ∷ []) opposite O (num 1) (hyp 0) tt tt refl (h .0), below R (h .1))
+    below : (x : Point) → NotRight a b x → functional cs m x ≤ℤ pos 0
+    below x = prove≤ (values (a ∷ b ∷ x ∷ [])) (notRightE 0 1 2 ∷ []) opposite O (num 1) (hyp 0) tt tt refl
 
-    above : (R : Shape) → Every (Right a b) R → Every (λ x. pos 0 <ℤ functional cs m x) R
-    above [] h = tt
-    above (x ∷ R) h = (prove< (values (a ∷ b ∷ x ∷ [])) (rightE 0 1 2 ∷ []) O opposite (num 1) (hyp 0) tt tt refl (h .0), above R (h .1))
+    above : (x : Point) → Right a b x → pos 0 <ℤ functional cs m x
+    above x = prove< (values (a ∷ b ∷ x ∷ [])) (rightE 0 1 2 ∷ []) O opposite (num 1) (hyp 0) tt tt refl
 
 -- ---- a line has no corner of a shape strictly right of it where
 -- the shape is a segment on it, in either direction,

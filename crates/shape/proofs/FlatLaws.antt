@@ -1,7 +1,7 @@
 -- Flat triangles told by determinants: in the plane exactly those whose turn is zero, in space those whose turns seen in y
 -- and z, z and x, x and y are all zero. And the test `isFlat`, which tells the flat shapes. Assumes nothing.
 use mathlib.Core.Path.{_≡_, refl, sym, _∙_, ap, subst}
-use mathlib.Core.Bool.{Bool, true, false, cond}
+use mathlib.Core.Bool.{Bool}
 use mathlib.Core.List.{[], _∷_}
 use mathlib.Core.Logic.{_⊎_, inl, inr, _↔_}
 use Prim.Native.Nat.{ℕ, zero, suc, _<_}

@@ -1,6 +1,6 @@
 -- What specs/Flat.antt says by turns is what document 01 says in words: a triangle is flat exactly where one of its corners is
 -- a point of the segment between the other two. And: it is flat in any order of its corners. Assumes nothing.
-use mathlib.Core.Path.{_≡_, refl, sym, _∙_, ap}
+use mathlib.Core.Path.{_≡_, refl, _∙_, ap}
 use mathlib.Core.List.{List, [], _∷_}
 use mathlib.Core.Logic.{_⊎_, inl, inr, _↔_}
 use Prim.Native.Nat.{ℕ, _≤_, _<_}
@@ -13,7 +13,6 @@ use Rattle.algebra.proofs.Expression.{Ex, var, lit, _⊞_, _⊟_, _⊠_, neg}
 use Rattle.algebra.proofs.Solver.{_≗_, solve}
 use Rattle.algebra.proofs.Certificate.{Rel, _≺_, _≐_, hyp, eqn, num, _⊕_, prove≡}
 use Rattle.shape.specs.Points.{Point, coord}
-use Rattle.shape.specs.Signs.{turn, turnIn}
 use Rattle.shape.specs.Sharing.{total, weigh, Share}
 use Rattle.shape.specs.Flat.{Equal, OnLine, Flat}
 use Rattle.shape.proofs.Trading.{share-among}

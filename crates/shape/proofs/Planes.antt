@@ -1,21 +1,21 @@
 -- Planes of space: the functional along two directions, the plane of a triangle as one of them, its sides by its normal, and what lies
 -- strictly on one side of it. Assumes nothing.
-use mathlib.Core.Path.{_≡_, refl, ap, _∙_}
+use mathlib.Core.Path.{_≡_, refl, sym, ap, subst, _∙_}
 use mathlib.Core.List.{List, [], _∷_}
 use Prim.Native.Nat.{ℕ, zero, suc}
 use native.Mathlib.Omega.{arith}
 use lib.IntN.{ℤ, pos, negℤ}
-use lib.Signed.{_<ℤ_}
-use Rattle.algebra.proofs.Expression.{Ex, _⊞_, _⊠_, neg}
+use lib.Signed.{_≤ℤ_, _<ℤ_, ≤ℤ-refl}
+use Rattle.algebra.proofs.Expression.{Ex, var, _⊞_, _⊠_, neg}
 use Rattle.algebra.proofs.Solver.{ring}
-use Rattle.algebra.proofs.Certificate.{_≺_, hyp, num, prove≤, prove<}
+use Rattle.algebra.proofs.Certificate.{_≺_, hyp, num, prove<}
 use Rattle.shape.specs.Points.{Point, Shape}
 use Rattle.shape.specs.Signs.{row, side}
 use Rattle.shape.specs.Normals.{minors, dot, normalOf}
 use Rattle.shape.specs.Sharing.{Share}
 use Rattle.shape.proofs.Symbols.{values, O, PointE, point, rowE, minorE, sideE}
 use Rattle.shape.proofs.SignLaws.{equal-points}
-use Rattle.shape.proofs.Weights.{Every}
+use Rattle.shape.proofs.Weights.{Every, every-so}
 use Rattle.shape.proofs.Trading.{first, second, third, among-itself, share-among}
 use Rattle.shape.proofs.Apart.{dotFrom, functional, apart}
 
@@ -54,6 +54,10 @@ plane-is-side a b c x =
     (neg (productE (rowE (point 1) (point 2)) (point 0))) tt refl
     ∙ ap negℤ (side-by-normal a b c x)
 
+-- So it is zero on the plane.
+pub zero-on-plane : (a b c x : Point) → side a b c x ≡ pos 0 → functional (across c a c b) (offset c a c b) x ≡ pos 0
+zero-on-plane a b c x e = plane-is-side a b c x ∙ ap negℤ e
+
 -- The corners of a triangle are on its plane.
 pub corners-on : (a b c : Point) → Every (λ x. side a b c x ≡ pos 0) (a ∷ b ∷ c ∷ [])
 corners-on a b c = (equal-points [] a (b ∷ c ∷ []) [], (equal-points (a ∷ []) b (c ∷ []) [], (equal-points (a ∷ b ∷ []) c [] [], tt)))
@@ -61,28 +65,22 @@ corners-on a b c = (equal-points [] a (b ∷ c ∷ []) [], (equal-points (a ∷ 
 -- What lies strictly below the plane of a triangle has no point in common with it, and what lies strictly above it neither.
 pub below-plane : (a b c : Point) (Q : Shape) → Every (λ x. side a b c x <ℤ pos 0) Q → Share 3 (a ∷ b ∷ c ∷ []) Q → ⊥
 below-plane a b c Q h =
-    apart (across c a c b) (offset c a c b) (omega arith) (
-      prove≤ (ρ a) [] (acrossAt 2 0 2 1 0) O (num 1) (num 0) tt tt refl,
-      (
-        prove≤ (ρ a) [] (acrossAt 2 0 2 1 1) O (num 1) (num 0) tt tt refl,
-        (prove≤ (ρ a) [] (acrossAt 2 0 2 1 2) O (num 1) (num 0) tt tt refl, tt),
-      ),
-    ) (each Q h)
+    apart (across c a c b) (offset c a c b) (omega arith)
+    (every-so on (a ∷ b ∷ c ∷ []) (corners-on a b c))
+    (every-so below Q h)
   where
-    ρ : Point → List ℤ
-    ρ x = values (a ∷ b ∷ c ∷ x ∷ [])
+    on : (x : Point) → side a b c x ≡ pos 0 → functional (across c a c b) (offset c a c b) x ≤ℤ pos 0
+    on x e = subst (λ (z : ℤ). z ≤ℤ pos 0) (sym (zero-on-plane a b c x e)) (≤ℤ-refl (pos 0))
 
-    each : (R : Shape) → Every (λ x. side a b c x <ℤ pos 0) R → Every (λ x. pos 0 <ℤ functional (across c a c b) (offset c a c b) x) R
-    each [] g = tt
-    each (x ∷ R) g = (prove< (ρ x) ((sideE 0 1 2 3 ≺ O) ∷ []) O (acrossAt 2 0 2 1 3) (num 1) (hyp 0) tt tt refl (g .0), each R (g .1))
+    above-zero : (z : ℤ) → z <ℤ pos 0 → pos 0 <ℤ negℤ z
+    above-zero z = prove< (z ∷ []) ((var 0 ≺ O) ∷ []) O (neg (var 0)) (num 1) (hyp 0) tt tt refl
+
+    below : (x : Point) → side a b c x <ℤ pos 0 → pos 0 <ℤ functional (across c a c b) (offset c a c b) x
+    below x l = subst (λ (z : ℤ). pos 0 <ℤ z) (sym (plane-is-side a b c x)) (above-zero (side a b c x) l)
 
 pub above-plane : (a b c : Point) (Q : Shape) → Every (λ x. pos 0 <ℤ side a b c x) Q → Share 3 (a ∷ b ∷ c ∷ []) Q → ⊥
 above-plane a b c Q h s =
-    below-plane a c b Q (each Q h) (share-among (first, (third, (second, tt))) (among-itself Q) s)
+    below-plane a c b Q (every-so turned Q h) (share-among (first, (third, (second, tt))) (among-itself Q) s)
   where
-    each : (R : Shape) → Every (λ x. pos 0 <ℤ side a b c x) R → Every (λ x. side a c b x <ℤ pos 0) R
-    each [] g = tt
-    each (x ∷ R) g = (
-      prove< (values (a ∷ b ∷ c ∷ x ∷ [])) ((O ≺ sideE 0 1 2 3) ∷ []) (sideE 0 2 1 3) O (num 1) (hyp 0) tt tt refl (g .0),
-      each R (g .1),
-    )
+    turned : (x : Point) → pos 0 <ℤ side a b c x → side a c b x <ℤ pos 0
+    turned x = prove< (values (a ∷ b ∷ c ∷ x ∷ [])) ((O ≺ sideE 0 1 2 3) ∷ []) (sideE 0 2 1 3) O (num 1) (hyp 0) tt tt refl

@@ -12,7 +12,7 @@ use lib.Signed.{_≤ℤ_, _<ℤ_, ≤ℤ-refl}
 use Rattle.algebra.proofs.Order.{ThreeWay, minus, none, plus, three-way, lt-of-sub, eq-of-sub, lt-or-ge, le-antisym, le-of-lt, ≤ℤ-<ℤ-trans}
 use Rattle.algebra.proofs.Expression.{Ex, var, lit, _⊞_, _⊟_, _⊠_, neg}
 use Rattle.algebra.proofs.Solver.{ring}
-use Rattle.algebra.proofs.Certificate.{Rel, _≦_, _≺_, _≐_, hyp, eqn, num, _⊕_, prove≤, prove<, prove≡}
+use Rattle.algebra.proofs.Certificate.{Rel, _≦_, _≺_, _≐_, hyp, eqn, num, prove≤, prove<, prove≡}
 use Rattle.shape.specs.Points.{Point, coord}
 use Rattle.shape.specs.Signs.{turnIn, side}
 use Rattle.shape.specs.Sharing.{Share}

@@ -58,6 +58,11 @@ pub every-point : {F : Point → Type 0} → ((a : Point) → F a) → (P : Shap
 every-point h [] = tt
 every-point h (a ∷ P) = (h a, every-point h P)
 
+-- What follows at each corner from what holds there.
+pub every-so : {F G : Point → Type 0} → ((a : Point) → F a → G a) → (P : Shape) → Every F P → Every G P
+every-so f [] h = tt
+every-so f (a ∷ P) h = (f a (h .0), every-so f P (h .1))
+
 pub weigh-map : (f : Point → ℤ) (h : Point → Point) (ws : List ℕ) (P : Shape) →
     weigh f ws (map h P) ≡ weigh (λ a. f (h a)) ws P
 weigh-map f h [] P = refl

@@ -3,21 +3,21 @@
 use mathlib.Core.Path.{_≡_, refl, subst₂}
 use mathlib.Core.Bool.{Bool}
 use mathlib.Core.List.{[], _∷_}
-use mathlib.Core.Logic.{_⊎_, inl, inr}
+use mathlib.Core.Logic.{inl, inr}
 use Prim.Native.Nat.{ℕ, zero, suc, _<_}
 use native.Mathlib.Omega.{arith}
 use lib.Dec.{eqb}
 use lib.IntN.{ℤ, pos, negsuc, negℤ}
 use lib.Signed.{_<ℤ_, <ℤ-irrefl}
 use Rattle.algebra.proofs.Order.{le-of-lt, ≤ℤ-<ℤ-trans}
-use Rattle.algebra.proofs.Expression.{var, lit, neg}
+use Rattle.algebra.proofs.Expression.{var, neg}
 use Rattle.algebra.proofs.Certificate.{_≺_, hyp, num, prove<}
 use Rattle.shape.specs.Points.{Point, Shape, coord}
 use Rattle.shape.specs.Signs.{turnIn, side, sign, digit}
 use Rattle.shape.specs.Sharing.{Share}
 use Rattle.shape.specs.Flat.{Flat}
 use Rattle.shape.specs.Verdicts.{Says}
-use Rattle.shape.specs.WireTest.{bothBelow, stretchesMeet, oneSide, linesMeet, shadowsMeet, segmentsTest, eitherEdge, segmentTriangleTest, trianglesTest}
+use Rattle.shape.specs.WireTest.{bothBelow, stretchesMeet, oneSide, shadowsMeet, segmentsTest, eitherEdge, segmentTriangleTest, trianglesTest}
 use Rattle.shape.proofs.Symbols.{O}
 use Rattle.shape.proofs.Trading.{share-trade}
 use Rattle.shape.proofs.VerdictLaws.{says-less, says-both, says-either, says-neither, says-by, says-same}
