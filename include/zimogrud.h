@@ -58,7 +58,7 @@
  * as many numbers or bytes as the length beside it says, and `text` of zg_sheet for ZG_SHEET_TEXT_LENGTH (174768) bytes: for
  * reading and, at `answer`, `answers`, `buffer` and `text`, for writing; not null and aligned also where the length is 0. Bytes
  * need no alignment. These four overlap neither each other nor any of the other lists, and nothing else writes to any of them
- * during the call. zg_list takes some 230 kilobytes of stack, whatever its lists, zg_plate some 50 and zg_sheet some 55; the
+ * during the call. zg_list takes some 230 kilobytes of stack, whatever its lists, zg_plate some 70 and zg_sheet some 55; the
  * other calls take little.
  */
 #ifndef ZIMOGRUD_H
@@ -95,8 +95,8 @@
 #define ZG_SECOND 1
 
 /*
- * Refusals. zg_plate gives 1, 2 and 6 to 12, zg_sheet these and 13 to 15, zg_flat 1 to 3, zg_list 1 and 3 to 5, the other calls
- * 1 and 3.
+ * Refusals. zg_plate gives 1, 2, 6 to 12 and 16, zg_sheet 1, 2 and 6 to 15, zg_flat 1 to 3, zg_list 1 and 3 to 5, the other
+ * calls 1 and 3.
  */
 #define ZG_SERVED 0
 #define ZG_OFF_GRID 1
@@ -114,6 +114,7 @@
 #define ZG_BAD_FIELD 13
 #define ZG_SHEET_CUT 14
 #define ZG_SHEET_TOO_LONG 15
+#define ZG_SHELL_OPEN 16
 
 /* Values of zg_turn and zg_side: the signs -1, 0 and 1. */
 #define ZG_SIGN_MINUS 0
@@ -221,7 +222,8 @@ uint32_t zg_list(const int32_t *a, size_t a_length, const int32_t *b, size_t b_l
  *     ZG_CALL_LIFT    2    slot                                               6, 9
  *     ZG_CALL_SHIFT   3    part                            3: dx, dy, dz      7, 10, 11
  *     ZG_CALL_UNDO    4                                                       12
- *     ZG_CALL_PARTS   5    p               q                                  7 for p, 7 for q, 10 for p, 10 for q
+ *     ZG_CALL_PARTS   5    p               q                                  7 for p, 7 for q, 10 for p, 10 for q,
+ *                                                                             16 for p, 16 for q
  *
  *     answers[6k + ZG_AT_REFUSAL]      [6k]       the refusal number, ZG_SERVED (0) where the call serves
  *     answers[6k + ZG_AT_SIDE]         [6k + 1]   ZG_SECOND (1) where ZG_CALL_PARTS refuses q, otherwise ZG_FIRST (0)
@@ -239,6 +241,16 @@ uint32_t zg_list(const int32_t *a, size_t a_length, const int32_t *b, size_t b_l
  *     ZG_PART_NOT_PLACED  10   no triangle of that part is on the plate       the part
  *     ZG_LEAVES_GRID      11   a shift would take a coordinate off the grid   the lowest such slot
  *     ZG_NOTHING_TO_UNDO  12   an undo at reach 0                             0
+ *     ZG_SHELL_OPEN       16   the shell of a part is open                    the part
+ *
+ * Two parts clash where their skins meet, that is, where a triangle of the one has a point in common with a triangle of the
+ * other, or where a corner of one is inside the other: an odd number of the other's triangles lies ahead of it in the +x
+ * direction. (The corner is taken to be moved by a vanishing amount in y and a still smaller one in z, so that no ray runs along
+ * a triangle or through a corner.) So a part that is swallowed whole clashes; one in a hollow that is given by an inner skin
+ * doesn't. Inside asks for closed shells: each directed edge of a part's triangles occurs once, and its reverse once, where the
+ * triangle a, b, c has the edges a to b, b to c and c to a. A part asked against itself doesn't clash, and skins that meet do,
+ * whatever the shells; otherwise 16 is given where one is open. The count is of pairs of triangles that have a point in
+ * common: a part that is swallowed whole adds nothing to it.
  *
  * Result: how many calls were done. These are all that `calls`, `numbers` and `answers` have room for, or those before the
  * first of another kind than 1 to 5. All numbers of `answers` after theirs stay as they are.

@@ -28,11 +28,11 @@ module _ {X : Type 0} where
   within-front (suc q) j (suc p) (x ∷ xs) h = within-front q j p xs (omega arith)
 
   -- ---- ys in the place of the n elements from p on: they stand there, and a part before them is as it was
-  put-here : (p k n : ℕ) (xs ys : List X) → p ≤ length xs → length ys ≡ k → take k (drop p (putMid p n xs ys)) ≡ ys
+  pub put-here : (p k n : ℕ) (xs ys : List X) → p ≤ length xs → length ys ≡ k → take k (drop p (putMid p n xs ys)) ≡ ys
   put-here p k n xs ys h e =
       ap (take k) (drop-at (take p xs) (ys ++ postOf p n xs) p (length-take-le p xs h)) ∙ take-at ys (postOf p n xs) k e
 
-  put-before : (q j p n : ℕ) (xs ys : List X) → q + j ≤ p → p ≤ length xs → take j (drop q (putMid p n xs ys)) ≡ take j (drop q xs)
+  pub put-before : (q j p n : ℕ) (xs ys : List X) → q + j ≤ p → p ≤ length xs → take j (drop q (putMid p n xs ys)) ≡ take j (drop q xs)
   put-before q j p n xs ys h g =
       sym (within-front q j p (putMid p n xs ys) h) ∙ ap (λ (l : List X). take j (drop q l)) (take-put p n xs ys g) ∙ within-front q j p xs h
 

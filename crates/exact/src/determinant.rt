@@ -163,7 +163,7 @@ pub fn sign_of(z: i64) -> Sign
 }
 
 // The level that a side value tells, by its sign: 0 for -1, 1 for 0, 2 for 1. The tests in space take every sign from here.
-fn level_of(z: i64) -> u32
+pub fn level_of(z: i64) -> u32
     ensures { λ r. ⌜ (r ≡ digit (sign z)) × (r ≤ 2) ⌝ }
 {
     match sign_of(z) {

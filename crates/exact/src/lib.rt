@@ -6,6 +6,7 @@ pub use determinant::PlanePoint;
 pub use determinant::Sign;
 pub use determinant::SpacePoint;
 pub use determinant::level_at;
+pub use determinant::level_of;
 pub use determinant::level_over;
 pub use determinant::normal_at;
 pub use determinant::plane_point;

@@ -15,6 +15,7 @@ use stories::say_plate;
 use stories::shift_row;
 use stories::undo_row;
 use stories::undo_times;
+ghost use Prim.Native.Nat.{_≤_};
 
 // The end of the grid.
 const L: i32 = 524_288;
@@ -283,7 +284,7 @@ fn shifts() {
     undo_row(plate::empty());
 }
 
-// Part 0 has A and P4's second triangle, which have an edge in common; part 1 has P1's second, part 2 P2's second.
+// Part 0 has A and P4's second triangle, which have an edge in common; part 1 has P1's second, part 2 P2's second: open shells.
 fn parts_plate() -> Plate {
     let a = placed(plate::empty(), 0, 0, &A);
     let b = placed(a, 1, 0, &[0, 0, 0, 4, 0, 0, 0, -4, 0]);
@@ -312,6 +313,68 @@ fn parts() {
     parts_row(plate, 2, 1);
 }
 
+// Of a block from (l,l,l) to (h,h,h) the bottom, the top and the front, in six slots; then its back, its left and its right. A face has two
+// triangles, which turn left as seen from outside.
+fn half_block(plate: Plate, slot: usize, part: usize, l: i32, h: i32) -> Plate
+    requires { ⌜ slot ≤ 58 ⌝ }
+{
+    let a = placed(plate, slot, part, &[l, l, l, l, h, l, h, h, l]);
+    let b = placed(a, slot + 1, part, &[l, l, l, h, h, l, h, l, l]);
+    let c = placed(b, slot + 2, part, &[l, l, h, h, l, h, h, h, h]);
+    let d = placed(c, slot + 3, part, &[l, l, h, h, h, h, l, h, h]);
+    let e = placed(d, slot + 4, part, &[l, l, l, h, l, l, h, l, h]);
+    placed(e, slot + 5, part, &[l, l, l, h, l, h, l, l, h])
+}
+
+fn other_half(plate: Plate, slot: usize, part: usize, l: i32, h: i32) -> Plate
+    requires { ⌜ slot ≤ 58 ⌝ }
+{
+    let a = placed(plate, slot, part, &[l, h, l, l, h, h, h, h, h]);
+    let b = placed(a, slot + 1, part, &[l, h, l, h, h, h, h, h, l]);
+    let c = placed(b, slot + 2, part, &[l, l, l, l, l, h, l, h, h]);
+    let d = placed(c, slot + 3, part, &[l, l, l, l, h, h, l, h, l]);
+    let e = placed(d, slot + 4, part, &[h, l, l, h, h, l, h, h, h]);
+    placed(e, slot + 5, part, &[h, l, l, h, h, h, h, l, h])
+}
+
+fn block(plate: Plate, slot: usize, part: usize, low: i32, high: i32) -> Plate
+    requires { ⌜ slot ≤ 52 ⌝ }
+{
+    let half = half_block(plate, slot, part, low, high);
+    other_half(half, slot + 6, part, low, high)
+}
+
+// A pin in a block; then the block with a hollow, given by an inner skin, and the pin in it; and a pin in what is left of the block.
+fn swallowed() -> Plate {
+    say(b"a pin in a block: ");
+    let pin = block(block(plate::empty(), 0, 0, 0, 20), 12, 1, 8, 9);
+    say_plate(pin);
+    parts_row(pin, 0, 1);
+    parts_row(pin, 1, 0);
+    say(b"the same with a hollow around the pin: ");
+    let hollow = block(pin, 24, 0, 4, 16);
+    say_plate(hollow);
+    parts_row(hollow, 0, 1);
+    parts_row(hollow, 1, 0);
+    say(b"another pin outside of the hollow: ");
+    let two = block(hollow, 36, 2, 17, 18);
+    say_plate(two);
+    parts_row(two, 0, 2);
+    parts_row(two, 1, 2);
+    two
+}
+
+// Open shells: of the pin, which is asked against itself too, and then of the block.
+fn opened(plate: Plate) {
+    let pin = lift_row(plate, 23);
+    parts_row(pin, 0, 1);
+    parts_row(pin, 1, 0);
+    parts_row(pin, 1, 1);
+    let both = lift_row(pin, 0);
+    parts_row(both, 0, 1);
+    parts_row(both, 1, 0);
+}
+
 fn main() {
     turns();
     sides();
@@ -326,4 +389,5 @@ fn main() {
     lifts();
     shifts();
     parts();
+    opened(swallowed());
 }

@@ -10,7 +10,8 @@ use Rattle.checks.specs.Answers.{served, refused, Check, fine, _then_}
 use Rattle.checks.proofs.AnswerLaws.{then-fine}
 use Rattle.slots.specs.Slots.{Slot, free, held}
 use Rattle.slots.specs.Changes.{Change, place, lift, shift, thrice, apply, replay}
-use Rattle.slots.specs.Searches.{lowest, leaves}
+use Rattle.shape.specs.Lists.{lowest}
+use Rattle.slots.specs.Leaving.{leaves}
 use Rattle.slots.specs.Showing.{FitSlot, Fit}
 use Rattle.slots.proofs.Sliding.{part-fits}
 use Rattle.slots.proofs.Arrays.{set-fits}

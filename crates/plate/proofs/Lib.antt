@@ -5,8 +5,9 @@
 -- and the theorems that stand beside the contracts:
 --   Faithful      the arrays tell the slots
 --   Demand        demand 3: a plate is the replay of the changes that stand, whatever calls made it
---   Table         each reason exactly in the case that document 01 states
+--   Table         each reason exactly in the case that documents 01 and 02 state
 --   Unique        no second answer and no second plate
+--   PartsVerdict  what a verdict on two parts says, and both ways alike
 -- Assumes nothing.
 pub mod Fits
 pub mod Outcomes
@@ -15,3 +16,4 @@ pub mod Faithful
 pub mod Demand
 pub mod Table
 pub mod Unique
+pub mod PartsVerdict

@@ -11,7 +11,7 @@ use Rattle.checks.specs.Told.{toldCheck}
 use Rattle.checks.proofs.AnswerLaws.{never-fine}
 use Rattle.slots.specs.Slots.{isOf, Clashes}
 use Rattle.slots.specs.Changes.{Change, apply, replay}
-use Rattle.slots.specs.Searches.{some}
+use Rattle.shape.specs.Lists.{some}
 use Rattle.slots.specs.Counting.{hasMark}
 use Rattle.slots.specs.Showing.{Fit}
 use Rattle.slots.proofs.Clashing.{clashes-true, clashes-only, some-mark}

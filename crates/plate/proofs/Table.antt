@@ -1,4 +1,4 @@
--- Each reason of a plate's call is given exactly in the case that document 01's table states, with the side and the place stated there: the
+-- Each reason of a plate's call is given exactly in the case that documents 01 and 02 state, with the side and the place stated there: the
 -- changes, undo and the parts call, and each of them on any plate that stands for the history of some calls. `ChangeCase`, `UndoCase` and
 -- `PartsCase` are the table, `plate-exactly` and `plate-parts-exactly` at the end the theorems; between them is their proof. Assumes nothing.
 use mathlib.Core.Path.{_≡_, refl, sym, ap, subst₃, _∙_}
@@ -7,12 +7,14 @@ use mathlib.Core.List.{List, [], _∷_}
 use mathlib.Core.Logic.{_↔_, _⊎_, inl, inr}
 use Prim.Native.Nat.{ℕ, zero, suc, _<_, _≤_}
 use native.Mathlib.Omega.{arith}
-use borrow.Author.Tests.{eqb-true, eq-eqb, leb-true, leb-false, ltb-true, ltb-false, lt-ltb, le-ltb, not-true, not-false}
+use borrow.Author.Tests.{eqb-true, eqb-false, eq-eqb, ne-eqb, leb-true, leb-false, ltb-true, ltb-false, lt-ltb, le-ltb, not-true, not-false}
 use lib.Dec.{eqb, leb, ltb}
 use lib.IntN.{ℤ}
 use lib.ListN.{length, getD, List·getD-eq-default}
 use Rattle.shape.specs.Points.{moved}
 use Rattle.shape.specs.Flat.{Flat}
+use Rattle.shape.specs.Shells.{isClosed}
+use Rattle.shape.proofs.VerdictLaws.{says-yes, says-no, says-fixed}
 use Rattle.checks.specs.Answers.{Answer, served, refused, Check, fine, _then_, numberOf, sideOf, placeOf}
 use Rattle.checks.specs.Grid.{lowestOff, allOn}
 use Rattle.checks.specs.Rules.{rightLength, notFlat, refuses-flat, shapeChecks}
@@ -20,14 +22,16 @@ use Rattle.checks.specs.Told.{toldCheck}
 use Rattle.checks.proofs.GridLaws.{SomeOff, Lowest, all-on, none-off, one-off, lowest as lowest-off, lowest-some}
 use Rattle.checks.proofs.CheckLaws.{LengthCase, right, wrong, length-case, GridCase, all, not-all, grid-case, OnGrid, FlatCase, flat, not-flat, flat-case, long-fine, not-long-refused, on-fine, off-refused, not-flat-fine, flat-refused}
 use Rattle.slots.specs.Slots.{Slot, free, held, triangle, isOf}
+use Rattle.slots.specs.Parts.{SkinsMeet, trianglesOf}
 use Rattle.slots.specs.Changes.{Change, place, lift, shift, thrice}
-use Rattle.slots.specs.Searches.{some, lowest, leaves}
+use Rattle.shape.specs.Lists.{some, lowest}
+use Rattle.slots.specs.Leaving.{leaves}
 use Rattle.slots.specs.Arrays.{markOf}
-use Rattle.slots.proofs.Searching.{some-at, some-found, lowest-at, lowest-none, below-lowest}
+use Rattle.shape.proofs.ListLaws.{some-at, some-found, lowest-at, lowest-none, below-lowest}
 use Rattle.keeping.specs.declared.plates.Plate.{Plate}
 use Rattle.reasons.specs.Rules.{slotFree, changeChecks, partsChecks}
 use Rattle.plate.specs.Histories.{History, slotsOf, Call, change, undo, made, takenBack, outcome, run}
-use Rattle.plate.specs.Plates.{Stands, Answered, Promise, PartsPromise}
+use Rattle.plate.specs.Plates.{Stands, Answered, Promise, presentAnswer, PartsRule, PartsPromise}
 use Rattle.plate.specs.declared.calls.PlateAnswer.{PlateAnswer}
 use Rattle.reasons.proofs.Placing.{placing, place-order}
 use Rattle.reasons.proofs.Orders.{place-8, place-fine, lift-6, lift-9, lift-fine, shift-7, shift-10, shift-11, shift-fine}
@@ -118,6 +122,13 @@ pub data UndoCase (h : History) : (number side spot : ℕ) → Type 0 where
   -- Served: the reach is above 0.
   undo-served : 0 < h .reach → UndoCase h 0 0 0
 
+-- The shell of part q is closed; it is open.
+abbrev pub Closed : List Slot → ℕ → Type 0
+Closed S q = isClosed (trianglesOf q S) ≡ true
+
+abbrev pub Open : List Slot → ℕ → Type 0
+Open S q = isClosed (trianglesOf q S) ≡ false
+
 -- The question whether the parts p and q clash, on the slots S.
 pub data PartsCase (S : List Slot) (p q : ℕ) : (number side spot : ℕ) → Type 0 where
   -- 7: the first part above 15, then the second.
@@ -126,8 +137,11 @@ pub data PartsCase (S : List Slot) (p q : ℕ) : (number side spot : ℕ) → Ty
   -- 10: no triangle of the first part, then of the second.
   first-none : p ≤ 15 → q ≤ 15 → NoPart S p → PartsCase S p q 10 0 p
   second-none : p ≤ 15 → q ≤ 15 → HasPart S p → NoPart S q → PartsCase S p q 10 1 q
-  -- Served: both are there.
-  parts-served : p ≤ 15 → q ≤ 15 → HasPart S p → HasPart S q → PartsCase S p q 0 0 0
+  -- 16: both are there, they are two, their skins don't meet, and the shell of the first is open, then of the second.
+  first-open : p ≤ 15 → q ≤ 15 → HasPart S p → HasPart S q → (p ≡ q → ⊥) → (SkinsMeet S p q → ⊥) → Open S p → PartsCase S p q 16 0 p
+  second-open : p ≤ 15 → q ≤ 15 → HasPart S p → HasPart S q → (p ≡ q → ⊥) → (SkinsMeet S p q → ⊥) → Closed S p → Open S q → PartsCase S p q 16 1 q
+  -- Served: both are there, and they are one part, or their skins meet, or both shells are closed.
+  parts-served : p ≤ 15 → q ≤ 15 → HasPart S p → HasPart S q → (p ≡ q) ⊎ (SkinsMeet S p q ⊎ (Closed S p × Closed S q)) → PartsCase S p q 0 0 0
 
 -- ---- cases and answers
 -- The same answer gives the same.
@@ -423,32 +437,71 @@ module _ (S : List Slot) where
   change-exactly c = exactly (changeChecks S c) (ChangeCase S c) (from-change c) (some-change c)
 
 -- ---- the parts call
-module _ (S : List Slot) (p q : ℕ) where
-  from-parts : (number side spot : ℕ) → PartsCase S p q number side spot → Gives (partsChecks S p q) number side spot
-  from-parts number side spot (first-above a) =
-      let e : partsChecks S p q ≡ refused 7 0 p = rw (lt-ltb 15 p a) in gives-as e
-  from-parts number side spot (second-above a b) =
-      let e : partsChecks S p q ≡ refused 7 1 q = rw (le-ltb 15 p a, lt-ltb 15 q b) in gives-as e
-  from-parts number side spot (first-none a b none) =
-      let e : partsChecks S p q ≡ refused 10 0 p = rw (le-ltb 15 p a, le-ltb 15 q b, none-some p S none) in gives-as e
+module _ (S : List Slot) (p q : ℕ) {answer : Answer Bool} (rule : PartsRule S p q answer) where
+  -- Where the checks refuse, and where they are fine.
+  told-refused : {n s k : ℕ} → partsChecks S p q ≡ refused n s k → answer ≡ refused n s k
+  told-refused e = rule .told ∙ ap (λ (c : Check). c then presentAnswer S p q (rule .skins) (rule .inside)) e
+
+  told-fine : partsChecks S p q ≡ fine → answer ≡ presentAnswer S p q (rule .skins) (rule .inside)
+  told-fine e = rule .told ∙ ap (λ (c : Check). c then presentAnswer S p q (rule .skins) (rule .inside)) e
+
+  there : p ≤ 15 → q ≤ 15 → HasPart S p → HasPart S q → partsChecks S p q ≡ fine
+  there a b h g = rw (le-ltb 15 p a, le-ltb 15 q b, has-some p S h, has-some q S g)
+
+  from-parts : (number side spot : ℕ) → PartsCase S p q number side spot → Gives answer number side spot
+  from-parts number side spot (first-above a) = gives-as (told-refused (rw (lt-ltb 15 p a)))
+  from-parts number side spot (second-above a b) = gives-as (told-refused (rw (le-ltb 15 p a, lt-ltb 15 q b)))
+  from-parts number side spot (first-none a b none) = gives-as (told-refused (rw (le-ltb 15 p a, le-ltb 15 q b, none-some p S none)))
   from-parts number side spot (second-none a b h none) =
-      let e : partsChecks S p q ≡ refused 10 1 q = rw (le-ltb 15 p a, le-ltb 15 q b, has-some p S h, none-some q S none) in gives-as e
-  from-parts number side spot (parts-served a b h g) =
-      let e : partsChecks S p q ≡ fine = rw (le-ltb 15 p a, le-ltb 15 q b, has-some p S h, has-some q S g) in gives-as e
+      gives-as (told-refused (rw (le-ltb 15 p a, le-ltb 15 q b, has-some p S h, none-some q S none)))
+  from-parts number side spot (first-open a b h g other apart wide) =
+      let is : answer ≡ refused 16 0 p =
+      told-fine (there a b h g) ∙ rw (ne-eqb p q other, says-fixed (rule .skins-right) (says-no apart), wide) in gives-as is
+  from-parts number side spot (second-open a b h g other apart closed wide) =
+      let is : answer ≡ refused 16 1 q =
+      told-fine (there a b h g) ∙ rw (ne-eqb p q other, says-fixed (rule .skins-right) (says-no apart), closed, wide) in gives-as is
+  from-parts number side spot (parts-served a b h g (inl e)) =
+      let is : answer ≡ served false = told-fine (there a b h g) ∙ rw (eq-eqb p q e) in gives-as is
+  from-parts number side spot (parts-served a b h g (inr (inl clash))) =
+      also-served (eqb p q) (told-fine (there a b h g) ∙ rw (says-fixed (rule .skins-right) (says-yes clash)))
+    where
+      also-served : (b : Bool) → answer ≡ cond b (served false) (served true) → Gives answer 0 0 0
+      also-served true e = gives-as e
+      also-served false e = gives-as e
+  from-parts number side spot (parts-served a b h g (inr (inr closed))) =
+      also-served (eqb p q) (rule .skins) (told-fine (there a b h g) ∙ rw (closed .0, closed .1))
+    where
+      also-served : (b v : Bool) → answer ≡ cond b (served false) (cond v (served true) (served (rule .inside))) → Gives answer 0 0 0
+      also-served true v e = gives-as e
+      also-served false true e = gives-as e
+      also-served false false e = gives-as e
 
   some-parts : SomeCase (PartsCase S p q)
   some-parts = decide (at-most-or-above p 15) (at-most-or-above q 15) (has-or-none p S) (has-or-none q S)
     where
+      closing : (v w : Bool) → isClosed (trianglesOf p S) ≡ v → isClosed (trianglesOf q S) ≡ w → p ≤ 15 → q ≤ 15 → HasPart S p → HasPart S q →
+          (p ≡ q → ⊥) → (SkinsMeet S p q → ⊥) → SomeCase (PartsCase S p q)
+      closing false w e f a b h g other apart = record { number = 16; side = 0; spot = p; found = first-open a b h g other apart e }
+      closing true false e f a b h g other apart = record { number = 16; side = 1; spot = q; found = second-open a b h g other apart e f }
+      closing true true e f a b h g other apart = record { number = 0; side = 0; spot = 0; found = parts-served a b h g (inr (inr (e, f))) }
+
+      skins : (same v : Bool) → eqb p q ≡ same → rule .skins ≡ v → p ≤ 15 → q ≤ 15 → HasPart S p → HasPart S q → SomeCase (PartsCase S p q)
+      skins true v e f a b h g = record { number = 0; side = 0; spot = 0; found = parts-served a b h g (inl (eqb-true p q e)) }
+      skins false true e f a b h g =
+          record { number = 0; side = 0; spot = 0; found = parts-served a b h g (inr (inl (rule .skins-right .yes f))) }
+      skins false false e f a b h g =
+          closing (isClosed (trianglesOf p S)) (isClosed (trianglesOf q S)) refl refl a b h g (eqb-false p q e) (rule .skins-right .no f)
+
       decide : (p ≤ 15) ⊎ (15 < p) → (q ≤ 15) ⊎ (15 < q) → HasPart S p ⊎ NoPart S p → HasPart S q ⊎ NoPart S q → SomeCase (PartsCase S p q)
       decide (inr a) b h g = record { number = 7; side = 0; spot = p; found = first-above a }
       decide (inl a) (inr b) h g = record { number = 7; side = 1; spot = q; found = second-above a b }
       decide (inl a) (inl b) (inr none) g = record { number = 10; side = 0; spot = p; found = first-none a b none }
       decide (inl a) (inl b) (inl h) (inr none) = record { number = 10; side = 1; spot = q; found = second-none a b h none }
-      decide (inl a) (inl b) (inl h) (inl g) = record { number = 0; side = 0; spot = 0; found = parts-served a b h g }
+      decide (inl a) (inl b) (inl h) (inl g) = skins (eqb p q) (rule .skins) refl refl a b h g
 
-  -- The checks of the parts call give a number, a side and a place exactly in their case.
-  pub parts-exactly : {number side spot : ℕ} → PartsCase S p q number side spot ↔ Gives (partsChecks S p q) number side spot
-  parts-exactly = exactly (partsChecks S p q) (PartsCase S p q) from-parts some-parts
+  -- The parts call gives a number, a side and a place exactly in their case.
+  pub parts-exactly : {number side spot : ℕ} → PartsCase S p q number side spot ↔ Gives answer number side spot
+  parts-exactly = exactly answer (PartsCase S p q) from-parts some-parts
 
 -- ---- undo
 reach-above : (past : List Change) (k : ℕ) → 0 < k → Gives (takenBack past k) 0 0 0
@@ -516,10 +569,4 @@ plate-exactly before {p} {c} {r} s k =
 -- Parts: likewise.
 pub plate-parts-exactly : (before : List Call) {plate : Plate} {p q : ℕ} {answer : Answer Bool} → Stands (run before) plate →
     PartsPromise plate p q answer → {number side spot : ℕ} → PartsCase (slotsOf (run before)) p q number side spot ↔ Gives answer number side spot
-plate-parts-exactly before {p} {q} {answer} s k =
-    let S = slotsOf (run before) in
-    let rule = k .kept before s in
-    let checks = partsChecks S p q in
-    let same = then-gives checks (rule .verdict) in
-    let told = gives-as (rule .told) in
-    also-exactly answer checks (told .0 ∙ same .0, told .1 ∙ same .1, told .2 ∙ same .2) (parts-exactly S p q)
+plate-parts-exactly before {p} {q} s k = parts-exactly (slotsOf (run before)) p q (k .kept before s)

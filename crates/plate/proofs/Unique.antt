@@ -4,11 +4,11 @@ use mathlib.Core.Path.{_≡_, refl, sym, ap, _∙_}
 use mathlib.Core.Bool.{Bool}
 use mathlib.Core.List.{List}
 use Prim.Native.Nat.{ℕ}
-use Rattle.checks.specs.Answers.{Answer, served, refused, Check}
+use Rattle.shape.proofs.VerdictLaws.{says-fixed}
+use Rattle.checks.specs.Answers.{Answer, served, refused, Check, _then_}
 use Rattle.checks.specs.Told.{toldCheck}
 use Rattle.checks.specs.declared.grid.Checked.{Checked}
 use Rattle.checks.specs.declared.grid.Checked.the-variants.{Fine, Refused as CheckRefused}
-use Rattle.checks.proofs.AnswerLaws.{one-verdict}
 use Rattle.predicate.specs.Told.{toldVerdict}
 use Rattle.predicate.specs.declared.answer.VerdictAnswer.{VerdictAnswer}
 use Rattle.predicate.proofs.Unique.{verdict-told}
@@ -17,7 +17,7 @@ use Rattle.slots.proofs.Clashing.{clashes-unique}
 use Rattle.keeping.specs.declared.plates.Plate.{Plate}
 use Rattle.reasons.specs.Rules.{partsChecks}
 use Rattle.plate.specs.Histories.{History, Call, outcome, run}
-use Rattle.plate.specs.Plates.{Stands, Answered, Promise, CountPromise, PartsRule, PartsPromise}
+use Rattle.plate.specs.Plates.{Stands, Answered, Promise, CountPromise, presentAnswer, PartsRule, PartsPromise}
 use Rattle.plate.specs.declared.calls.PlateAnswer.{PlateAnswer}
 
 -- One plate stands for a history.
@@ -57,7 +57,10 @@ answer-unique before r r′ s k k′ =
 
 -- Parts: on the same slots the question has one right answer, and so it has on a plate that stands for a history.
 pub parts-rule-unique : {S : List Slot} {p q : ℕ} {a b : Answer Bool} → PartsRule S p q a → PartsRule S p q b → a ≡ b
-parts-rule-unique {S} {p} {q} x y = x .told ∙ one-verdict (partsChecks S p q) (x .right) (y .right) ∙ sym (y .told)
+parts-rule-unique {S} {p} {q} x y =
+    x .told
+    ∙ (λ i. partsChecks S p q then presentAnswer S p q (says-fixed (x .skins-right) (y .skins-right) i) (says-fixed (x .inside-right) (y .inside-right) i))
+    ∙ sym (y .told)
 
 pub parts-unique : (before : List Call) {plate : Plate} {p q : ℕ} (r r′ : VerdictAnswer) → Stands (run before) plate →
     PartsPromise plate p q (toldVerdict r) → PartsPromise plate p q (toldVerdict r′) → r ≡ r′

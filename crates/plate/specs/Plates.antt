@@ -1,16 +1,18 @@
 -- Which value of the struct `Plate` stands for a history, to the last number; and what each call promises.
 use mathlib.Core.Path.{_≡_}
-use mathlib.Core.Bool.{Bool}
+use mathlib.Core.Bool.{Bool, true, false, cond}
 use mathlib.Core.List.{List, [], _∷_, map}
 use Prim.Native.Nat.{ℕ}
+use lib.Dec.{eqb}
 use Rattle.shape.specs.Verdicts.{Says}
 use Rattle.checks.specs.Answers.{Answer, served, refused, fine, _then_}
 use Rattle.checks.specs.Told.{toldCheck}
-use Rattle.slots.specs.Slots.{Slot, Clashes, PartsClash}
+use Rattle.slots.specs.Slots.{Slot, Clashes}
+use Rattle.slots.specs.Parts.{SkinsMeet, EitherInside}
 use Rattle.slots.specs.Arrays.{markOf, flat}
 use Rattle.keeping.specs.Journal.{journalOf}
 use Rattle.keeping.specs.declared.plates.Plate.{Plate}
-use Rattle.reasons.specs.Rules.{partsChecks}
+use Rattle.reasons.specs.Rules.{partsChecks, shellChecks}
 use Rattle.plate.specs.Histories.{History, slotsOf, Call, outcome, run}
 use Rattle.plate.specs.declared.calls.PlateAnswer.{PlateAnswer}
 
@@ -40,11 +42,18 @@ pub record CountPromise (p : Plate) (r : ℕ) : Type 0 where
   pub read : r ≡ p .count
   pub kept : (before : List Call) → Stands (run before) p → Clashes (slotsOf (run before)) r
 
--- Parts: refused as the checks say, or else a verdict, yes exactly when the two parts clash.
+-- What two parts that are there are answered, by whether their skins meet and whether some corner of one is inside the other: a part against itself no,
+-- skins that meet yes; then 16 for p, 16 for q; and then as the corners say.
+abbrev pub presentAnswer : List Slot → ℕ → ℕ → (skins inside : Bool) → Answer Bool
+presentAnswer S p q skins inside = cond (eqb p q) (served false) (cond skins (served true) (shellChecks S p q then served inside))
+
+-- Parts: 7, 10, same part, skins, 16.
 pub record PartsRule (S : List Slot) (p q : ℕ) (answer : Answer Bool) : Type 0 where
-  pub verdict : Bool
-  pub told : answer ≡ (partsChecks S p q then served verdict)
-  pub right : partsChecks S p q ≡ fine → Says verdict (PartsClash S p q)
+  pub skins : Bool
+  pub inside : Bool
+  pub skins-right : Says skins (SkinsMeet S p q)
+  pub inside-right : Says inside (EitherInside S p q)
+  pub told : answer ≡ (partsChecks S p q then presentAnswer S p q skins inside)
 
 pub record PartsPromise (plate : Plate) (p q : ℕ) (answer : Answer Bool) : Type 0 where
   pub kept : (before : List Call) → Stands (run before) plate → PartsRule (slotsOf (run before)) p q answer

@@ -11,7 +11,8 @@ use Rattle.checks.specs.Answers.{refused, Check, fine, _then_}
 use Rattle.checks.proofs.AnswerLaws.{never-fine}
 use Rattle.slots.specs.Slots.{Slot, free, held, isFree, isOf}
 use Rattle.slots.specs.Changes.{place, lift, shift, thrice}
-use Rattle.slots.specs.Searches.{some, lowest, leaves}
+use Rattle.shape.specs.Lists.{some, lowest}
+use Rattle.slots.specs.Leaving.{leaves}
 use Rattle.slots.specs.Arrays.{markOf}
 use Rattle.slots.specs.Showing.{Shown}
 use Rattle.reasons.specs.Findings.{PlaceFound, LiftFound, ShiftFound}

@@ -1,4 +1,4 @@
--- When a call on a plate is refused: document 01's table, and its order of reasons.
+-- When a call on a plate is refused: document 01's table with document 02's reason 16, and their order of reasons.
 use mathlib.Core.Bool.{cond}
 use mathlib.Core.List.{List}
 use Prim.Native.Nat.{ℕ}
@@ -8,8 +8,11 @@ use lib.ListN.{length, getD}
 use Rattle.checks.specs.Answers.{refused, Check, fine, _then_}
 use Rattle.checks.specs.Rules.{rightLength, refuses-flat, shapeChecks}
 use Rattle.slots.specs.Slots.{Slot, free, isFree, isOf}
+use Rattle.slots.specs.Parts.{trianglesOf}
 use Rattle.slots.specs.Changes.{Change, place, lift, shift, thrice}
-use Rattle.slots.specs.Searches.{some, lowest, leaves}
+use Rattle.shape.specs.Lists.{some, lowest}
+use Rattle.shape.specs.Shells.{isClosed}
+use Rattle.slots.specs.Leaving.{leaves}
 
 -- ---- the reasons
 -- Reason 6: slot above 63.
@@ -36,6 +39,10 @@ partPresent side S q = cond (some (isOf q) S) fine (refused 10 side q)
 abbrev pub partStays : List Slot → ℕ → List ℤ → Check
 partStays S q by = cond (ltb (lowest (leaves q by) S) (length S)) (refused 11 0 (lowest (leaves q by) S)) fine
 
+-- Reason 16: the shell of that part is open.
+abbrev pub shellClosed : ℕ → List Slot → ℕ → Check
+shellClosed side S q = cond (isClosed (trianglesOf q S)) fine (refused 16 side q)
+
 -- ---- the order
 -- Place: 6, 7, 3, 1, 2, 8. Lift: 6, 9. Shift: 7, 10, 11.
 unfoldable pub changeChecks : List Slot → Change → Check
@@ -44,6 +51,9 @@ changeChecks S (place s q numbers) =
 changeChecks S (lift s) = slotWithin s then slotFilled S s
 changeChecks S (shift q dx dy dz) = partWithin 0 q then partPresent 0 S q then partStays S q (thrice dx dy dz)
 
--- Parts: 7 for p, 7 for q, 10 for p, 10 for q.
+-- Parts: 7 for p, 7 for q, 10 for p, 10 for q; and of two parts whose skins don't meet, 16 for p, 16 for q.
 abbrev pub partsChecks : List Slot → ℕ → ℕ → Check
 partsChecks S p q = partWithin 0 p then partWithin 1 q then partPresent 0 S p then partPresent 1 S q
+
+abbrev pub shellChecks : List Slot → ℕ → ℕ → Check
+shellChecks S p q = shellClosed 0 S p then shellClosed 1 S q

@@ -25,4 +25,12 @@ pub mod Dropping
 pub mod SpaceLeaves
 pub mod SpaceTest
 pub mod WireTest
+pub mod ListLaws
+pub mod Eventually
+pub mod AheadAt
+pub mod AheadTest
+pub mod InsideTest
+pub mod TriangleLists
+pub mod ShellRows
+pub mod ShellMoves
 pub mod Bench

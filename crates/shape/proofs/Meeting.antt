@@ -85,11 +85,11 @@ weighℤ f (w ∷ ws) (a ∷ P) = w *ℤ f a +ℤ weighℤ f ws P
 natural : (z : ℤ) → pos 0 ≤ℤ z → pos (natAbs z) ≡ z
 natural z h = pos-natAbs z (yes-nonNeg h)
 
-total-natural : (zs : List ℤ) → NonNegative zs → pos (total (map natAbs zs)) ≡ totalℤ zs
+pub total-natural : (zs : List ℤ) → NonNegative zs → pos (total (map natAbs zs)) ≡ totalℤ zs
 total-natural [] h = refl
 total-natural (z ∷ zs) h = ap₂ _+ℤ_ (natural z (h .0)) (total-natural zs (h .1))
 
-weigh-natural : (f : Point → ℤ) (zs : List ℤ) (P : Shape) → NonNegative zs → weigh f (map natAbs zs) P ≡ weighℤ f zs P
+pub weigh-natural : (f : Point → ℤ) (zs : List ℤ) (P : Shape) → NonNegative zs → weigh f (map natAbs zs) P ≡ weighℤ f zs P
 weigh-natural f [] P h = refl
 weigh-natural f (z ∷ zs) [] h = refl
 weigh-natural f (z ∷ zs) (a ∷ P) h = ap₂ (λ (y w : ℤ). y *ℤ f a +ℤ w) (natural z (h .0)) (weigh-natural f zs P (h .1))

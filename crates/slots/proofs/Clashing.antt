@@ -1,6 +1,6 @@
 -- From the decision that code computes (specs/Counting.antt) to the definition (specs/Slots.antt), whatever the slots are: two slots strike
 -- exactly when they clash, so both ways alike; the tally is the number of clashing pairs, and there is one such number; and two marks strike
--- exactly when their parts clash. Assumes nothing.
+-- exactly when the skins of their parts meet. Assumes nothing.
 use mathlib.Core.Path.{_≡_, refl, sym, ap, ap₂, _∙_}
 use mathlib.Core.Bool.{Bool, true, false, cond}
 use mathlib.Core.List.{List, [], _∷_, map}
@@ -19,11 +19,12 @@ use Rattle.shape.specs.Verdicts.{Says}
 use Rattle.shape.proofs.WireTest.{triangles-test}
 use Rattle.shape.proofs.Trading.{share-trade}
 use Rattle.shape.proofs.VerdictLaws.{says-yes, says-no, says-same, says-fixed}
-use Rattle.slots.specs.Slots.{Slot, free, held, triangle, isOf, Clash, Clashing, none, one, pass, Clashes, empty, with, PartsClash}
-use Rattle.slots.specs.Searches.{some}
+use Rattle.slots.specs.Slots.{Slot, free, held, triangle, isOf, Clash, Clashing, Clashes, empty, with}
+use Rattle.slots.specs.Parts.{SkinsMeet}
+use Rattle.shape.specs.Lists.{some, none, one, pass}
 use Rattle.slots.specs.Arrays.{markOf}
 use Rattle.slots.specs.Counting.{meets, strikes, hit, row, tally, hasMark, strikesIf, strikesMark, slotStrikes, marksStrike}
-use Rattle.slots.proofs.Searching.{some-at, some-found}
+use Rattle.shape.proofs.ListLaws.{some-at, some-found, how-many-unique}
 
 -- ---- two triangles
 pub meets-says : (s t : List ℤ) → Says (meets s t) (Share 3 (triangle s) (triangle t))
@@ -43,7 +44,7 @@ strikes-says (held p s) (held q t) = by-parts (eqb p q) refl
     by-parts false e = says-same ((λ c. (eqb-false p q e, c)), (λ c. c .1)) (meets-says s t)
 
 -- Both slots of a clash are alike.
-clash-trade : (x y : Slot) → Clash x y → Clash y x
+pub clash-trade : (x y : Slot) → Clash x y → Clash y x
 clash-trade (held p s) (held q t) c = ((λ e. c .0 (sym e)), share-trade (c .1))
 clash-trade (held p s) free c = c
 clash-trade free (held q t) c = c
@@ -67,22 +68,15 @@ unfolding tally
 clashes-true [] = empty
 clashes-true (x ∷ S) = with (clashing-true x S) (clashes-true S)
 
-clashing-unique : {x : Slot} {S : List Slot} {m n : ℕ} → Clashing x S m → Clashing x S n → m ≡ n
-clashing-unique none none = refl
-clashing-unique (one c h) (one d k) = ap suc (clashing-unique h k)
-clashing-unique (one c h) (pass d k) = absurd (d c)
-clashing-unique (pass c h) (one d k) = absurd (c d)
-clashing-unique (pass c h) (pass d k) = clashing-unique h k
-
 pub clashes-unique : {S : List Slot} {m n : ℕ} → Clashes S m → Clashes S n → m ≡ n
 clashes-unique empty empty = refl
-clashes-unique (with a h) (with b k) = ap₂ _+_ (clashing-unique a b) (clashes-unique h k)
+clashes-unique (with a h) (with b k) = ap₂ _+_ (how-many-unique a b) (clashes-unique h k)
 
 pub clashes-only : (S : List Slot) {n : ℕ} → Clashes S n → n ≡ tally S
 clashes-only S h = clashes-unique h (clashes-true S)
 
 -- ---- parts
-mark-of : (q : ℕ) (x : Slot) → eqb (markOf x) (suc q) ≡ isOf q x
+pub mark-of : (q : ℕ) (x : Slot) → eqb (markOf x) (suc q) ≡ isOf q x
 mark-of q free = eqb·zero-suc q
 mark-of q (held p s) = eqb·suc-suc p q
 
@@ -100,13 +94,13 @@ cond-true : (a b : Bool) → cond a b false ≡ true → (a ≡ true) × (b ≡ 
 cond-true true b e = (refl, e)
 cond-true false b e = let z : _≡_ {A = ℕ} 0 1 = cc in absurd (omega arith)
 
-pub parts-says : (S : List Slot) (p q : ℕ) → Says (marksStrike (suc p) (suc q) S) (PartsClash S p q)
-parts-says S p q = record { yes = found; no = λ e c. let z : _≡_ {A = ℕ} 0 1 = cc (finds c) in omega arith }
+pub skins-say : (S : List Slot) (p q : ℕ) → Says (marksStrike (suc p) (suc q) S) (SkinsMeet S p q)
+skins-say S p q = record { yes = found; no = λ e c. let z : _≡_ {A = ℕ} 0 1 = cc (finds c) in omega arith }
   where
     at : ℕ → Slot
     at i = getD S i free
 
-    found : marksStrike (suc p) (suc q) S ≡ true → PartsClash S p q
+    found : marksStrike (suc p) (suc q) S ≡ true → SkinsMeet S p q
     found e =
         let first = some-found (slotStrikes (suc p) (suc q) S) free S e in
         let x = at (first .i) in
@@ -121,7 +115,7 @@ parts-says S p q = record { yes = found; no = λ e c. let z : _≡_ {A = ℕ} 0 
           clash = strikes-says x y .yes (of-second .1);
         }
 
-    finds : PartsClash S p q → marksStrike (suc p) (suc q) S ≡ true
+    finds : SkinsMeet S p q → marksStrike (suc p) (suc q) S ≡ true
     finds c =
         let x = at (c .i) in
         let y = at (c .j) in

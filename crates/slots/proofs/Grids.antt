@@ -5,8 +5,9 @@ use mathlib.Core.List.{List, [], _∷_, _++_}
 use Prim.Native.Nat.{ℕ, zero, suc, _+_, _-_, _*_, _<_}
 use native.Mathlib.Omega.{arith}
 use borrow.Author.Tests.{le-leb, ltb-false}
+use borrow.Rule.Slice.PartMut.{putMid}
 use lib.IntN.{ℤ, pos, natAbs}
-use lib.ListN.{getD, length, take, drop, replicate}
+use lib.ListN.{getD, length, take, drop, replicate, length-replicate}
 use Rattle.algebra.proofs.Parts.{length-lent}
 use Rattle.shape.proofs.VerdictLaws.{says-yes, says-fixed}
 use Rattle.exact.specs.Grid.{limit, Ready}
@@ -16,6 +17,7 @@ use Rattle.checks.proofs.CheckLaws.{OnGrid, on-take, on-drop}
 use Rattle.slots.specs.Slots.{Slot, free}
 use Rattle.slots.specs.Arrays.{numbersOf, flat}
 use Rattle.slots.specs.Showing.{FitSlot, Shown}
+use Rattle.slots.proofs.Arrays.{length-put}
 
 -- Lists on the grid stay so end to end, and zeros are on it.
 on-append : (a b : List ℤ) → OnGrid a → OnGrid b → OnGrid (a ++ b)
@@ -28,9 +30,12 @@ on-zeros zero k = omega arith
 on-zeros (suc n) zero = omega arith
 on-zeros (suc n) (suc k) = on-zeros n k
 
+pub zeros-ready : (n : ℕ) → Ready n (replicate n (pos 0))
+zeros-ready n = record { long = length-replicate n (pos 0); each = on-zeros n }
+
 -- An empty slot is fit.
 pub free-fits : FitSlot free
-free-fits = record { long = refl; each = on-zeros 9 }
+free-fits = zeros-ready 9
 
 on-slots : (S : List Slot) → ((i : ℕ) → FitSlot (getD S i free)) → OnGrid (flat S)
 unfolding flat
@@ -56,4 +61,12 @@ pub nine-ready : (i : ℕ) (coords : List ℤ) → i < 64 → length coords ≡ 
 nine-ready i coords h long on = record {
   long = length-lent (9 * i) 9 coords (omega arith);
   each = on-take (9 * i + 9 - 9 * i) (drop (9 * i) coords) (on-drop (9 * i) coords (tested-on coords on));
+}
+
+-- Nine numbers on the grid, put in the place of nine others of a list that is.
+pub put-ready : (i : ℕ) (list nine : List ℤ) → i < 64 → Ready 576 list → Ready 9 nine → Ready 576 (putMid (9 * i) (9 * i + 9 - 9 * i) list nine)
+put-ready i list nine h ready new = record {
+  long = length-put i list nine h (ready .long) (new .long);
+  each = on-append (take (9 * i) list) (nine ++ drop (9 * i + 9 - 9 * i) (drop (9 * i) list)) (on-take (9 * i) list (ready .each))
+      (on-append nine (drop (9 * i + 9 - 9 * i) (drop (9 * i) list)) (new .each) (on-drop (9 * i + 9 - 9 * i) (drop (9 * i) list) (on-drop (9 * i) list (ready .each))));
 }

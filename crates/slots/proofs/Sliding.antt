@@ -16,10 +16,11 @@ use Rattle.moving.specs.Moves.{steps}
 use Rattle.moving.proofs.MoveLaws.{length-moved, moved-back}
 use Rattle.slots.specs.Slots.{Slot, free, held, triangle}
 use Rattle.slots.specs.Changes.{thrice, shifted}
-use Rattle.slots.specs.Searches.{lowest, leaves}
+use Rattle.shape.specs.Lists.{lowest}
+use Rattle.slots.specs.Leaving.{leaves}
 use Rattle.slots.specs.Arrays.{numbersOf, markOf}
 use Rattle.slots.specs.Showing.{FitSlot, Fit}
-use Rattle.slots.proofs.Searching.{below-lowest}
+use Rattle.shape.proofs.ListLaws.{below-lowest}
 use Rattle.slots.proofs.Grids.{tested-on}
 
 -- ---- one triangle

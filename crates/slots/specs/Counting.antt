@@ -9,7 +9,7 @@ use mir.Val.{boolByte}
 use Rattle.shape.specs.Points.{pointAt}
 use Rattle.shape.specs.WireTest.{trianglesTest}
 use Rattle.slots.specs.Slots.{Slot, free, held}
-use Rattle.slots.specs.Searches.{some}
+use Rattle.shape.specs.Lists.{some}
 use Rattle.slots.specs.Arrays.{markOf}
 
 -- The test of two triangles, nine numbers each.

@@ -1,8 +1,9 @@
 -- What slots are, what changes do to them, and how two flat arrays show them. The promises of the plate's calls (crate `plate`) speak of
--- Slots, Changes, Searches and Arrays; Counting and Showing are for the functions inside, and no public promise speaks of them.
+-- Slots, Parts, Changes, Leaving and Arrays; Counting and Showing are for the functions inside, and no public promise speaks of them.
 pub mod Slots
+pub mod Parts
 pub mod Changes
-pub mod Searches
+pub mod Leaving
 pub mod Arrays
 pub mod Counting
 pub mod Showing

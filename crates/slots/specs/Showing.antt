@@ -1,13 +1,16 @@
--- What the functions on the arrays take for granted and promise: slots as the arrays show them, and slots moved there.
+-- What the functions on the arrays take for granted and promise: slots as the arrays show them, slots moved there, and the triangles of a part gathered
+-- from them.
 use mathlib.Core.Path.{_≡_}
 use mathlib.Core.Bool.{true}
 use mathlib.Core.List.{List, map}
-use Prim.Native.Nat.{ℕ, suc, _*_}
+use Prim.Native.Nat.{ℕ, suc, _+_, _*_, _≤_}
 use lib.IntN.{ℤ}
 use lib.ListN.{getD, length, set, take, drop}
+use Rattle.shape.specs.TriangleLists.{trianglesIn}
 use Rattle.exact.specs.Grid.{Ready}
 use Rattle.checks.specs.Grid.{allOn}
 use Rattle.slots.specs.Slots.{Slot, free}
+use Rattle.slots.specs.Parts.{trianglesOf}
 use Rattle.slots.specs.Changes.{shifted}
 use Rattle.slots.specs.Arrays.{numbersOf, markOf, flat}
 
@@ -43,3 +46,16 @@ pub record SlotMoved (coords : List ℤ) (parts : List ℕ) (i mark : ℕ) (by :
 -- A part moved in the coordinates. Where a slot would leave the grid nothing is said.
 pub record PartMoved (coords : List ℤ) (parts : List ℕ) (mark : ℕ) (by : List ℤ) (r : List ℤ) : Type 0 where
   pub is : {S : List Slot} (q : ℕ) → Shown S coords parts → mark ≡ suc q → Fit (map (shifted q by) S) → r ≡ flat (map (shifted q by) S)
+
+-- The triangles of a part among the first slots, so many, stood at the front of a list; now those among the slots up to slot i do.
+pub record SlotGathered (coords : List ℤ) (parts : List ℕ) (i mark : ℕ) (before : List ℤ) (many : ℕ) (after : List ℤ) (r : ℕ) : Type 0 where
+  pub most : r ≤ many + 1
+  pub ready : Ready 576 after
+  pub is : (S : List Slot) (q : ℕ) → Shown S coords parts → mark ≡ suc q → trianglesIn many before ≡ trianglesOf q (take i S) →
+      trianglesIn r after ≡ trianglesOf q (take (i + 1) S)
+
+-- The triangles of a part, so many, stand at the front of a list, all of whose numbers are on the grid.
+pub record Gathered (coords : List ℤ) (parts : List ℕ) (mark : ℕ) (after : List ℤ) (many : ℕ) : Type 0 where
+  pub most : many ≤ 64
+  pub ready : Ready 576 after
+  pub is : (S : List Slot) (q : ℕ) → Shown S coords parts → mark ≡ suc q → trianglesIn many after ≡ trianglesOf q S

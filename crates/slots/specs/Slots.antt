@@ -2,12 +2,12 @@
 use mathlib.Core.Path.{_≡_}
 use mathlib.Core.Bool.{Bool, true, false}
 use mathlib.Core.List.{List, [], _∷_}
-use Prim.Native.Nat.{ℕ, suc, _+_}
+use Prim.Native.Nat.{ℕ, _+_}
 use lib.Dec.{eqb}
 use lib.IntN.{ℤ}
-use lib.ListN.{getD}
 use Rattle.shape.specs.Points.{Shape, pointsAt}
 use Rattle.shape.specs.Sharing.{Share}
+use Rattle.shape.specs.Lists.{HowMany}
 
 -- A slot is empty, or it holds one triangle, as nine numbers, and its part number.
 pub data Slot : Type 0 where
@@ -35,20 +35,10 @@ Clash (held p s) free = ⊥
 Clash (held p s) (held q t) = (p ≡ q → ⊥) × Share 3 (triangle s) (triangle t)
 
 -- So many of these slots clash with x.
-pub data Clashing (x : Slot) : List Slot → ℕ → Type 0 where
-  none : Clashing x [] 0
-  one : {y : Slot} {S : List Slot} {n : ℕ} → Clash x y → Clashing x S n → Clashing x (y ∷ S) (suc n)
-  pass : {y : Slot} {S : List Slot} {n : ℕ} → (Clash x y → ⊥) → Clashing x S n → Clashing x (y ∷ S) n
+abbrev pub Clashing : Slot → List Slot → ℕ → Type 0
+Clashing x = HowMany (Clash x)
 
 -- So many pairs of these slots clash, each pair once: each slot is taken with those after it.
 pub data Clashes : List Slot → ℕ → Type 0 where
   empty : Clashes [] 0
   with : {x : Slot} {S : List Slot} {m n : ℕ} → Clashing x S m → Clashes S n → Clashes (x ∷ S) (m + n)
-
--- Two parts clash: some slot of the one clashes with some slot of the other. (So a part never clashes with itself.)
-pub record PartsClash (S : List Slot) (p q : ℕ) : Type 0 where
-  pub i : ℕ
-  pub j : ℕ
-  pub of-p : isOf p (getD S i free) ≡ true
-  pub of-q : isOf q (getD S j free) ≡ true
-  pub clash : Clash (getD S i free) (getD S j free)

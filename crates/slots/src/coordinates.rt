@@ -7,7 +7,8 @@ ghost use Prim.Native.Nat.{ℕ, suc, _*_, _<_};
 ghost use lib.ListN.{length, getD};
 ghost use Rattle.moving.specs.Moves.{steps};
 ghost use Rattle.slots.specs.Slots.{Slot, free};
-ghost use Rattle.slots.specs.Searches.{leaves, lowest};
+ghost use Rattle.shape.specs.Lists.{lowest};
+ghost use Rattle.slots.specs.Leaving.{leaves};
 ghost use Rattle.slots.specs.Showing.{Shown, PartMoved, SlotMoved};
 
 // Writes numbers over others.

@@ -9,7 +9,7 @@ ghost use Prim.Native.Nat.{_≤_, _<_};
 ghost use lib.ListN.{length, getD};
 ghost use Rattle.checks.specs.Grid.{allOn};
 ghost use Rattle.slots.specs.Slots.{Slot, free};
-ghost use Rattle.slots.specs.Searches.{some};
+ghost use Rattle.shape.specs.Lists.{some};
 ghost use Rattle.slots.specs.Counting.{meets, strikes, row, rowOf, cross, hasMark, strikesIf, strikesMark, slotStrikes, marksStrike};
 ghost use Rattle.slots.specs.Showing.{nineAt, Sized, Shown};
 

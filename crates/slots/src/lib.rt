@@ -1,7 +1,8 @@
-// The slots of a plate in two flat arrays, of coordinates and of marks: how many clashes a slot or a part has, whether two parts clash, a part
-// moved, and the lowest slot that would leave the grid. Like crate `kernel`, this is the inside of the calls: it offers none itself.
+// The slots of a plate in two flat arrays, of coordinates and of marks: how many clashes a slot or a part has, whether the skins of two parts
+// meet, a part moved or gathered into one list, and the lowest slot that would leave the grid. Like crate `kernel`, this is the inside of the calls: it offers none itself.
 mod coordinates;
 mod counting;
+mod gathering;
 
 pub use coordinates::copy_numbers;
 pub use coordinates::lowest_leaving;
@@ -10,3 +11,4 @@ pub use counting::has_mark;
 pub use counting::marks_strike;
 pub use counting::part_clashes;
 pub use counting::slot_clashes;
+pub use gathering::gather_part;

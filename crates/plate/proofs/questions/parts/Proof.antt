@@ -70,28 +70,25 @@ returns-4 c =
     (sym (h .has-mark .ensures) ∙ not-false _ (k .before .before .if3 .left))
     (sym (k .has-mark2 .ensures) ∙ not-true _ (c .before .if4 .taken)) (c .no-part4 .ensures)
 
-slice-aggregate-marks-strike : tie.Need-slice-aggregate-marks-strike
-slice-aggregate-marks-strike c = search needs
+slice-aggregate-present-verdict : tie.Need-slice-aggregate-present-verdict
+slice-aggregate-present-verdict c = search needs
 
-slice-aggregate-marks-strike-2 : tie.Need-slice-aggregate-marks-strike-2
-slice-aggregate-marks-strike-2 c = search needs
+slice-aggregate-present-verdict-2 : tie.Need-slice-aggregate-present-verdict-2
+slice-aggregate-present-verdict-2 c = search needs
 
-marks-strike-requires : tie.Need-marks-strike-requires
-marks-strike-requires c κs = search needs
-
-marks-verdict-requires : tie.Need-marks-verdict-requires
-marks-verdict-requires c κs = search needs
+present-verdict-requires : tie.Need-present-verdict-requires
+present-verdict-requires c κs = search needs
 
 returns-5 : tie.Need-returns-5
 returns-5 c =
-    let m = c .before .before .before .before in
+    let m = c .before .before .before in
     let k = m .before in
     let h = k .before .before .before in
     let o = h .before .before .before .before in
     let a = o .before .before .args in
     parts-told (a .plate) (a .p) (a .q) (o .before .if1 .left) (o .if2 .left)
     (sym (h .has-mark .ensures) ∙ not-false _ (k .before .before .if3 .left))
-    (sym (k .has-mark2 .ensures) ∙ not-false _ (m .if4 .left)) (c .before .marks-strike .ensures) (c .marks-verdict .ensures)
+    (sym (k .has-mark2 .ensures) ∙ not-false _ (m .if4 .left)) (c .present-verdict .ensures)
 
 pub parts-spec : {M : Type 1} → statement M
 parts-spec =
@@ -113,8 +110,7 @@ parts-spec =
     has-mark-requires-2
     no-part-requires-4
     returns-4
-    slice-aggregate-marks-strike
-    slice-aggregate-marks-strike-2
-    marks-strike-requires
-    marks-verdict-requires
+    slice-aggregate-present-verdict
+    slice-aggregate-present-verdict-2
+    present-verdict-requires
     returns-5)

@@ -14,7 +14,8 @@ use mir.Facts.{toZ-ofZ}
 use Rattle.checks.specs.Answers.{refused}
 use Rattle.slots.specs.Slots.{Slot, isOf}
 use Rattle.slots.specs.Changes.{thrice}
-use Rattle.slots.specs.Searches.{some, lowest, leaves}
+use Rattle.shape.specs.Lists.{some, lowest}
+use Rattle.slots.specs.Leaving.{leaves}
 use Rattle.slots.specs.Counting.{hasMark}
 use Rattle.slots.specs.Showing.{Shown}
 use Rattle.slots.proofs.Clashing.{some-mark}

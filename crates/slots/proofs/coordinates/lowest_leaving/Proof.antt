@@ -8,9 +8,9 @@ use borrow.Author.Count.{below-none, below-more}
 use borrow.Author.Needs.{needs}
 use lib.ListN.{length, getD}
 use Rattle.slots.specs.Slots.{Slot, free}
-use Rattle.slots.specs.Searches.{leaves}
+use Rattle.slots.specs.Leaving.{leaves}
 use Rattle.slots.specs.Showing.{Shown}
-use Rattle.slots.proofs.Searching.{lowest-at, lowest-none}
+use Rattle.shape.proofs.ListLaws.{lowest-at, lowest-none}
 use Rattle.slots.proofs.coordinates.lowest_leaving.Statement.{statement}
 use Rattle.slots.proofs.coordinates.lowest_leaving.Tie as tie
 

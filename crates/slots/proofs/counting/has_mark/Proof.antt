@@ -8,7 +8,7 @@ use borrow.Author.Needs.{needs}
 use borrow.Author.Tests.{eq-eqb, ne-eqb}
 use lib.ListN.{length, getD}
 use Rattle.slots.specs.Counting.{hasMark}
-use Rattle.slots.proofs.Searching.{some-at, some-none}
+use Rattle.shape.proofs.ListLaws.{some-at, some-none}
 use Rattle.slots.proofs.counting.has_mark.Statement.{statement}
 use Rattle.slots.proofs.counting.has_mark.Tie as tie
 

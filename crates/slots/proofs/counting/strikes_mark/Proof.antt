@@ -10,7 +10,7 @@ use lib.ListN.{getD}
 use Rattle.slots.specs.Slots.{Slot, free}
 use Rattle.slots.specs.Counting.{strikesIf}
 use Rattle.slots.specs.Showing.{Shown}
-use Rattle.slots.proofs.Searching.{some-at, some-none}
+use Rattle.shape.proofs.ListLaws.{some-at, some-none}
 use Rattle.slots.proofs.counting.strikes_mark.Statement.{statement}
 use Rattle.slots.proofs.counting.strikes_mark.Tie as tie
 
