@@ -5,6 +5,7 @@ pub mod faults;
 pub mod listing;
 pub mod plate;
 pub mod sheet;
+pub mod shells;
 
 use crate::geometry::axes::{self, Overlap};
 use crate::geometry::clipping::{self, Reach};

@@ -1,14 +1,18 @@
-//! Own exact geometry in 128-bit whole numbers: signs, and whether two shapes have a common point, each by two
-//! different means. Shapes are closed: a touch is meeting.
+//! Own exact geometry in 128-bit whole numbers, and wider ones where these have no room: signs, whether two shapes have
+//! a common point, and whether a point is inside a shell, each by two different means. Shapes are closed: a touch is
+//! meeting.
 //!
 //! Coordinates of the grid are at most 2^19 in size, and their differences at most 2^20. What looks for flat shapes
 //! also gets coordinates from off the grid, at most 2^31 in size. The comments bound the largest numbers that arise.
 
+pub mod ahead;
 pub mod axes;
 pub mod clipping;
 pub mod edges;
+pub mod rays;
 pub mod signs;
 pub mod thin;
+mod wide;
 
 /// A point, or the step from one point to another, in D coordinates.
 pub type Point<const D: usize> = [i128; D];

@@ -1,6 +1,6 @@
-//! Random inputs of many kinds: tiny grids where special cases abound, the whole grid and its ends,
-//! shapes that touch or nearly do, flat shapes of every kind, every kind of bad list, stories of plates, and job
-//! sheets, good and broken.
+//! Random inputs of many kinds: tiny grids where special cases abound, the whole grid and its ends, shapes that touch
+//! or nearly do, flat shapes of every kind, every kind of bad list, stories of plates, some of them with closed shells,
+//! and job sheets, good and broken.
 
 mod breaks;
 mod faulty;
@@ -9,6 +9,9 @@ mod plane;
 mod pools;
 mod scenes;
 mod sheets;
+mod shell_stories;
+mod shells;
+mod solids;
 mod space;
 mod stories;
 mod teller;

@@ -1,8 +1,10 @@
-//! How many pairs of triangles on a plate clash, and whether two parts do, by both own methods. All pairs are looked at
-//! each time; only the verdict of two triangles is remembered, by their numbers, since it depends on nothing else.
+//! How many pairs of triangles on a plate clash, and how two parts lie to each other, by both own methods. All pairs
+//! are looked at each time; only the verdict of two triangles is remembered, by their numbers, since it depends on
+//! nothing else.
 
 use super::listing::meet;
 use super::plate::{pieces_of, Corners, Slots};
+use super::shells::{self, PartsFindings};
 use super::{points_of, Triangle};
 use std::collections::HashMap;
 
@@ -37,20 +39,27 @@ impl Clashes {
         counts
     }
 
-    /// Whether the parts clash, 0 or 1; by either method. A part doesn't clash with itself.
-    pub fn parts(&mut self, slots: &Slots, p: u32, q: u32) -> [u64; 2] {
-        let mut values = [0; 2];
+    /// How two parts that are on the plate lie to each other, by either method.
+    pub fn parts(&mut self, slots: &Slots, p: u32, q: u32) -> [PartsFindings; 2] {
+        let skins_meet = self.skins_meet(slots, p, q);
+        let [of_p, of_q] = [p, q].map(|part| triangles_of(slots, part));
+        shells::findings([p, q], [&of_p, &of_q], skins_meet)
+    }
+
+    /// Whether some triangle of one part meets some triangle of the other. A part doesn't meet itself.
+    fn skins_meet(&mut self, slots: &Slots, p: u32, q: u32) -> Verdict {
+        let mut skins_meet = [false; 2];
         if p == q {
-            return values;
+            return skins_meet;
         }
         for (_, one) in pieces_of(slots, p) {
             for (_, other) in pieces_of(slots, q) {
                 let (one, other) = (self.number_of(&one.corners), self.number_of(&other.corners));
                 let verdict = self.verdict(one, other);
-                (0..2).for_each(|method| values[method] |= u64::from(verdict[method]));
+                (0..2).for_each(|method| skins_meet[method] |= verdict[method]);
             }
         }
-        values
+        skins_meet
     }
 
     fn number_of(&mut self, corners: &Corners) -> usize {
@@ -68,4 +77,10 @@ impl Clashes {
         let triangles = &self.triangles;
         *self.verdicts[later][earlier].get_or_insert_with(|| meet(&triangles[later], &triangles[earlier]))
     }
+}
+
+pub fn triangles_of(slots: &Slots, part: u32) -> Vec<Triangle> {
+    pieces_of(slots, part)
+        .map(|(_, piece)| points_of(&piece.corners))
+        .collect()
 }

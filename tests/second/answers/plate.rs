@@ -3,6 +3,7 @@
 
 use super::clashes::Clashes;
 use super::faults::placed_triangle_faults;
+use super::shells::PartsFindings;
 use super::{Answer, GRID, TRIANGLE_NUMBERS};
 
 pub const SLOTS: usize = 64;
@@ -16,6 +17,7 @@ pub const SLOT_IS_EMPTY: u64 = 9;
 pub const PART_IS_ABSENT: u64 = 10;
 pub const SHIFT_OFF_GRID: u64 = 11;
 pub const NOTHING_TO_UNDO: u64 = 12;
+pub const SHELL_IS_OPEN: u64 = 16;
 
 /// The nine numbers of a triangle, and the three of a move.
 pub type Corners = [i32; TRIANGLE_NUMBERS];
@@ -71,8 +73,10 @@ impl PlateAnswer {
 /// One call of a story, with what it must tell and what it had to deal with.
 pub struct Step {
     pub call: PlateCall,
-    /// Everything that it could be refused for, in the order of document 01.
+    /// Everything that it could be refused for, in the order of documents 01 and 02.
     pub faults: Vec<Answer>,
+    /// How two parts lie to each other that are on the plate and were asked for.
+    pub parts: Option<PartsFindings>,
     pub told: PlateAnswer,
     /// The same by the other own method. A difference is a fault of this program.
     pub second_told: PlateAnswer,
@@ -108,20 +112,25 @@ impl Plate {
         let (faults, before) = (self.faults(&call), self.slots);
         let undone = self.perform(&call);
         let counts = clashes.count(&self.slots);
-        let values = match call {
-            PlateCall::Parts { p, q } if faults.is_empty() => clashes.parts(&self.slots, p, q),
-            _ => [0; 2],
+        let [parts, second_parts] = match call {
+            PlateCall::Parts { p, q } if faults.is_empty() => clashes.parts(&self.slots, p, q).map(Some),
+            _ => [None, None],
         };
-        let told = |method: usize| PlateAnswer {
-            answer: faults.first().copied().unwrap_or(Answer::served(values[method])),
-            count: counts[method],
-            reach: self.reach,
+        let told = |parts: &Option<PartsFindings>, count: u64| {
+            let faults = with_shell_faults(&faults, parts);
+            let value = parts.as_ref().map_or(0, PartsFindings::value);
+            PlateAnswer {
+                answer: faults.first().copied().unwrap_or(Answer::served(value)),
+                count,
+                reach: self.reach,
+            }
         };
         Step {
             call,
-            told: told(0),
-            second_told: told(1),
-            faults,
+            told: told(&parts, counts[0]),
+            second_told: told(&second_parts, counts[1]),
+            faults: with_shell_faults(&faults, &parts),
+            parts,
             undone,
             before,
             standing: self.changes.len(),
@@ -149,7 +158,8 @@ impl Plate {
         undone
     }
 
-    /// Everything that the call could be refused for, the weightiest first, also what that hides.
+    /// Everything that the call could be refused for, the weightiest first, also what that hides. Open shells are left
+    /// out: only Parts is refused for them, which changes nothing, and it takes long to know whether they matter.
     pub fn faults(&self, call: &PlateCall) -> Vec<Answer> {
         match call {
             PlateCall::Place { slot, part, corners } => self.place_faults(*slot, *part, corners),
@@ -197,6 +207,12 @@ impl Plate {
         let (slot, _) = pieces_of(&self.slots, part).find(|(_, piece)| leaves_grid(piece, by))?;
         Some(Answer::refused(SHIFT_OFF_GRID, 0, slot as u64))
     }
+}
+
+/// The faults, and after them those of the shells of two parts that were asked for.
+fn with_shell_faults(faults: &[Answer], parts: &Option<PartsFindings>) -> Vec<Answer> {
+    let of_shells = parts.iter().flat_map(PartsFindings::faults);
+    faults.iter().copied().chain(of_shells).collect()
 }
 
 /// The change that a call with nothing wrong asks for.

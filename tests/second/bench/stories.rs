@@ -1,5 +1,7 @@
-//! Stories of the plate with their answers as fixed numbers: bench row 16, how far undo reaches, and the points of
-//! document 01 that are easy to get wrong.
+//! Stories of the plate with their answers as fixed numbers: bench row 16, how far undo reaches, the points of document
+//! 01 that are easy to get wrong, and the shells of document 02.
+
+mod shells;
 
 use super::{A, ABOVE_A, L, THROUGH_A};
 use crate::answers::plate::{Corners, Move, PlateAnswer, PlateCall, PARTS, SLOTS};
@@ -41,7 +43,7 @@ impl Script {
 }
 
 pub fn stored() -> Vec<Stored> {
-    vec![
+    let mut stored = vec![
         row_16(),
         forty_changes(),
         thirty_left(),
@@ -53,7 +55,9 @@ pub fn stored() -> Vec<Stored> {
         moves_too_long(),
         slot_filled_again(),
         unknown_kind(),
-    ]
+    ];
+    stored.extend(shells::stored());
+    stored
 }
 
 fn place(slot: u32, part: u32, corners: Corners) -> PlateCall {
@@ -170,7 +174,8 @@ fn order_of_refusals() -> Stored {
     script.stored("the order of refusals")
 }
 
-/// What Parts refuses and answers; a part against itself is asked for its refusals first.
+/// What Parts refuses and answers; a part against itself is asked for its refusals first. Each part is a single
+/// triangle, so its shell is open.
 fn questions() -> Stored {
     let mut script = Script::default();
     script.served(place(0, 0, A), 0, 1);
@@ -188,8 +193,8 @@ fn questions() -> Stored {
         ((0, 0), Answer::served(0)),
         ((0, 1), Answer::served(1)),
         ((1, 0), Answer::served(1)),
-        ((0, 2), Answer::served(0)),
-        ((2, 1), Answer::served(0)),
+        ((0, 2), Answer::refused(16, 0, 0)),
+        ((2, 1), Answer::refused(16, 0, 2)),
     ];
     for ((p, q), answer) in asked {
         script.call(PlateCall::Parts { p, q }, answer, 1, 3);

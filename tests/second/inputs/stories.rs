@@ -1,6 +1,8 @@
 //! Random stories of a plate: phases of one kind of calls or another, so that plates get crowded, and long runs of
-//! changes are followed by long runs of undos; now and then a call of an unknown kind, and runs of uneven lengths.
+//! changes are followed by long runs of undos, or shells that are built, moved and asked for; now and then a call of an
+//! unknown kind, and runs of uneven lengths.
 
+use super::shell_stories::told_shell_story;
 use super::teller::Teller;
 use crate::answers::plate::{PlateCall, SLOTS};
 use crate::door::PLATE_ANSWER_NUMBERS;
@@ -33,6 +35,9 @@ pub fn tiny_story(random: &mut Random) -> Story {
 }
 
 fn told_story(random: &mut Random, tiny: bool) -> Story {
+    if random.once_in(3) {
+        return told_shell_story(random, tiny);
+    }
     let calls = match random.below(5) {
         0 => random.index(13),
         _ => 150 + random.index(300),

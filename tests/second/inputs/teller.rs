@@ -3,7 +3,7 @@
 
 use super::any_half;
 use super::pools::{any_pool, bad_corners, tiny_corners, tiny_pool};
-use crate::answers::plate::{pieces_of, Corners, Move, Plate, PlateCall, PARTS, SLOTS};
+use crate::answers::plate::{pieces_of, Corners, Move, Plate, PlateCall, Slots, PARTS, SLOTS};
 use crate::answers::GRID;
 use crate::random::Random;
 use crate::story::Story;
@@ -32,11 +32,20 @@ impl<'a> Teller<'a> {
         let slots = random.pick(&[2, 6, 20, 40, ALL_SLOTS, ALL_SLOTS, ALL_SLOTS, ALL_SLOTS]);
         let parts = random.pick(&[1, 2, 3, 5, PARTS, PARTS, PARTS]);
         Teller {
+            slots,
+            parts,
+            ..Teller::with_pool(random, pool, tiny)
+        }
+    }
+
+    /// All slots and parts may be filled, from a pool that must not be empty.
+    pub fn with_pool(random: &'a mut Random, pool: Vec<Corners>, tiny: bool) -> Teller<'a> {
+        Teller {
             story: Story::new(),
             plate: Plate::empty(),
             pool,
-            slots,
-            parts,
+            slots: ALL_SLOTS,
+            parts: PARTS,
             tiny,
             back: None,
             random,
@@ -251,8 +260,12 @@ impl<'a> Teller<'a> {
 
     // ---- What is on the plate ----
 
+    pub fn slots(&self) -> &Slots {
+        self.plate.slots()
+    }
+
     /// One of the filled slots, or one of the empty ones that are to be filled.
-    fn any_slot(&mut self, filled: bool) -> Option<u32> {
+    pub fn any_slot(&mut self, filled: bool) -> Option<u32> {
         let slots = self.plate.slots();
         let range = if filled { ALL_SLOTS } else { self.slots };
         let wanted: Vec<u32> = (0..range)

@@ -1,20 +1,22 @@
 //! Counts of what the stories of plates met, the line that reports them, and the cases that were missed.
 
 pub(super) mod cases;
+mod shells;
 
 use super::{finer_cases, listed, Count};
 use crate::answers::plate::{PlateCall, Step, MOST_REACH, PARTS, SLOTS};
 use crate::answers::plate::{NOTHING_TO_UNDO, NO_SUCH_PART, NO_SUCH_SLOT, PART_IS_ABSENT};
-use crate::answers::plate::{SHIFT_OFF_GRID, SLOT_IS_EMPTY, SLOT_IS_FILLED};
+use crate::answers::plate::{SHELL_IS_OPEN, SHIFT_OFF_GRID, SLOT_IS_EMPTY, SLOT_IS_FILLED};
 use crate::answers::{FLAT_SHAPE, OFF_GRID, TRIANGLE_NUMBERS};
 use crate::story::Story;
 use cases::{call_cases, is_served, kind_name, story_cases, Past};
+use shells::shell_cases;
 use std::collections::BTreeMap;
 
 /// A kind of call, with the number and the side of a refusal.
 type Refusal = (&'static str, u64, u64);
 
-const REFUSALS: [Refusal; 15] = [
+const REFUSALS: [Refusal; 17] = [
     ("place", NO_SUCH_SLOT, 0),
     ("place", NO_SUCH_PART, 0),
     ("place", OFF_GRID, 0),
@@ -30,10 +32,12 @@ const REFUSALS: [Refusal; 15] = [
     ("parts", NO_SUCH_PART, 1),
     ("parts", PART_IS_ABSENT, 0),
     ("parts", PART_IS_ABSENT, 1),
+    ("parts", SHELL_IS_OPEN, 0),
+    ("parts", SHELL_IS_OPEN, 1),
 ];
 
 /// Which of these one call can have at once: the one that counts, and one that it hides.
-const HIDDEN: [(usize, usize); 13] = [
+const HIDDEN: [(usize, usize); 14] = [
     (0, 1),
     (0, 2),
     (0, 3),
@@ -47,6 +51,7 @@ const HIDDEN: [(usize, usize); 13] = [
     (11, 14),
     (12, 13),
     (13, 14),
+    (15, 16),
 ];
 
 /// What must be met at every place below a number: a kind of call, and the number of its refusal or 0.
@@ -69,6 +74,8 @@ pub struct PlateTally {
     largest_reach: u64,
     most_standing: usize,
     call_cases: Vec<(&'static str, u64)>,
+    shell_cases: Vec<(&'static str, u64)>,
+    finer_shell_cases: Vec<(&'static str, u64)>,
     story_cases: Vec<(&'static str, u64)>,
     refusals: BTreeMap<Refusal, u64>,
     hidden: BTreeMap<(Refusal, Refusal), u64>,
@@ -83,6 +90,9 @@ impl PlateTally {
         let mut past = Past::default();
         for step in steps {
             add(&mut self.call_cases, &call_cases(step, &past));
+            let [of_shells, finer_of_shells] = shell_cases(step);
+            add(&mut self.shell_cases, &of_shells);
+            add(&mut self.finer_shell_cases, &finer_of_shells);
             self.note_answer(step);
             past.note(step);
         }
@@ -137,7 +147,7 @@ impl PlateTally {
     }
 
     fn counts(&self) -> Vec<Count> {
-        let cases = self.call_cases.iter().chain(&self.story_cases);
+        let cases = self.call_cases.iter().chain(&self.shell_cases).chain(&self.story_cases);
         let mut counts: Vec<Count> = cases.map(|(name, count)| (name.to_string(), *count)).collect();
         for refusal in REFUSALS {
             counts.push((refusal_name(refusal), count_of(&self.refusals, &refusal)));
@@ -145,9 +155,10 @@ impl PlateTally {
         counts
     }
 
-    /// Each fault that hides another, and each slot, part and position.
+    /// The rarer cases of shells, each fault that hides another, and each slot, part and position.
     fn fine_counts(&self) -> Vec<Count> {
-        let mut counts = Vec::new();
+        let cases = self.finer_shell_cases.iter();
+        let mut counts: Vec<Count> = cases.map(|(name, count)| (name.to_string(), *count)).collect();
         for (counting, hidden) in HIDDEN.map(|(one, other)| (REFUSALS[one], REFUSALS[other])) {
             let name = format!("{}, hiding {} side {}", refusal_name(counting), hidden.1, hidden.2);
             counts.push((name, count_of(&self.hidden, &(counting, hidden))));

@@ -7,7 +7,7 @@ use crate::door::PLATE_ANSWER_NUMBERS;
 use crate::story::{Story, CALL_COORDINATES, CALL_NUMBERS};
 
 /// Whether a case was met, by its name.
-type Met = Vec<(&'static str, bool)>;
+pub type Met = Vec<(&'static str, bool)>;
 
 /// What a story has told before a call.
 #[derive(Default)]
