@@ -1,7 +1,7 @@
 //! The pairs, of two triangles or of a segment and a triangle: three kinds of each that are timed, each
 //! from a seed of its own, and faulty ones. The listings' inputs, in `lists`, are made of triangles of
-//! these kinds, and of surfaces; the plates' inputs, in `plates`, of calls about such triangles, and the
-//! sheets' inputs, in `sheets`, of fields about them.
+//! these kinds, and of surfaces; the plates' inputs, in `plates`, of calls about such triangles, and about
+//! closed shells; and the sheets' inputs, in `sheets`, of fields about such triangles.
 
 pub mod lists;
 pub mod plates;

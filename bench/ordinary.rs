@@ -3,15 +3,16 @@
 //! document 01, step by step, and of flat triangles the one in `thin`) and gives the same four numbers.
 //! The ordinary segment test stands to `zg_segment` in the same way, the ordinary listing, in `listing`,
 //! to `zg_list`, the ordinary plate, in `plate`, to `zg_plate`, and the ordinary reader of job sheets, in
-//! `sheet`, to `zg_sheet`.
+//! `sheet`, to `zg_sheet`. Whether two parts on a plate clash is decided in `shells`.
 //!
 //! Every difference, product and determinant is a number of the type `W`: i128, or i64, in which
-//! everything on the grid fits as well.
+//! everything on the grid fits as well, and which the plate and its shells take.
 
 mod flat;
 pub mod listing;
 pub mod plate;
 pub mod sheet;
+mod shells;
 mod thin;
 
 use std::cmp::Ordering::{Equal, Greater, Less};

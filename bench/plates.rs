@@ -12,7 +12,8 @@ use std::hint::black_box;
 
 /// As for the listings.
 const ROUNDS: usize = 15;
-/// The plate that recounts takes many times as long as the others, so that a few rounds show it.
+/// The plate that recounts takes many times as long as the others where the plate changes, so that a few
+/// rounds show it.
 const RECOUNTED_ROUNDS: usize = 3;
 /// So many calls of each run are compared where nothing is timed.
 const QUICK_CALLS: usize = 1_000;

@@ -1,15 +1,18 @@
-//! The plates' inputs: runs of calls, three kinds that are timed, each from a seed of its own, and
-//! faulty ones.
+//! The plates' inputs: runs of calls, five kinds that are timed, and faulty ones. Three of the five are of
+//! random calls, each from a seed of its own; two are of questions whether two shells clash.
 
 use super::lists::{small_triangle, tiny_triangle};
+use super::surfaces::{octahedron, tetrahedron};
 use super::{box_list, faulty_shape, List, SMALL_HALF};
 use crate::ordinary::plate::kept::Kept;
 use crate::ordinary::plate::{Plate, ANSWER_NUMBERS, CALL_NUMBERS, CLASH, LIFT, PARTS, PLACE, SHIFT, SLOTS, UNDO};
 use crate::ordinary::{GRID, TRIANGLE_NUMBERS};
 use crate::random::Random;
 
-/// This many calls in a run that is timed.
+/// This many calls in a run of random ones that is timed.
 const CALLS: usize = 10_000;
+/// This many questions in a run of questions. One takes many times as long as a random call.
+const QUESTIONS: usize = 1_000;
 /// The highest ratio to the ordinary plate that the door should have.
 const GOAL: f64 = 1.5;
 /// Of the calls that the plate would refuse, one in so many stays in a run that is timed.
@@ -17,10 +20,13 @@ const REFUSED_ONCE_IN: u64 = 20;
 /// The middle of the grid goes from -MIDDLE_HALF to this, which leaves room for moves.
 const MIDDLE_HALF: i32 = GRID / 4;
 
-/// So many runs with faults, each of fewer calls and then fewer undos than these.
+/// So many runs with faults, each of fewer random calls and then fewer undos than these.
 const FAULTY_RUNS: usize = 2_000;
 const FAULTY_CALLS: usize = 120;
 const FAULTY_UNDOS: usize = 50;
+/// One of them in so many starts with two shells, of which one is moved so often.
+const SHELLS_ONCE_IN: u64 = 4;
+const SHELL_MOVES: usize = 6;
 
 /// The kinds of calls, each as often as it is drawn. Four places are drawn for one lift, and the fuller
 /// the plate is the more places are refused: on average some 50 slots are filled.
@@ -39,6 +45,23 @@ impl Run {
     fn push(&mut self, call: Call) {
         self.calls.extend(call.about);
         self.numbers.extend(call.numbers);
+    }
+
+    /// Asks whether the parts clash.
+    fn push_question(&mut self, p: u32, q: u32) {
+        self.push(Call {
+            about: [CLASH, p, q],
+            numbers: [0; TRIANGLE_NUMBERS],
+        });
+    }
+
+    /// Places the triangles of a list, from this slot on.
+    fn push_places(&mut self, first_slot: u32, part: u32, list: &[i32]) {
+        let triangles = list.chunks_exact(TRIANGLE_NUMBERS);
+        for (slot, triangle) in (first_slot..).zip(triangles) {
+            self.calls.extend([PLACE, slot, part]);
+            self.numbers.extend(triangle);
+        }
     }
 }
 
@@ -62,7 +85,7 @@ struct Style {
     farthest: [i32; 3],
 }
 
-pub fn timed() -> [Input; 3] {
+pub fn timed() -> [Input; 5] {
     [
         of_random(
             9,
@@ -89,7 +112,29 @@ pub fn timed() -> [Input; 3] {
                 farthest: [1, 0, 0],
             },
         ),
+        // Seen along x they overlap, so that the way from a corner leads through the other shell.
+        of_questions(
+            "questions of two shells of 32 triangles, beside each other",
+            octahedron([-240_000, 0, 0], 200_000),
+            octahedron([240_000, 35_001, 52_003], 200_000),
+        ),
+        of_questions(
+            "questions of two shells of 32 triangles, one inside the other",
+            octahedron([0, 0, 0], 400_000),
+            octahedron([20_001, 35_003, 52_007], 100_000),
+        ),
     ]
+}
+
+/// The shells are parts 0 and 1, and they are asked about both ways in turn.
+fn of_questions(name: &'static str, shell: Vec<i32>, other: Vec<i32>) -> Input {
+    let mut run = Run::default();
+    run.push_places(0, 0, &shell);
+    run.push_places(SLOTS as u32 / 2, 1, &other);
+    for (p, q) in [(0, 1), (1, 0)].into_iter().cycle().take(QUESTIONS) {
+        run.push_question(p, q);
+    }
+    Input { name, run, goal: GOAL }
 }
 
 /// The ordinary plate says which of the calls that are drawn would be refused. Such a call leaves it as
@@ -171,8 +216,8 @@ pub struct Question {
 }
 
 /// Short runs of calls of all kinds, refused or not, in which the numbers, the answers or the calls may
-/// have too little room and a kind may be unknown. Many undos at the end reach back beyond what can be
-/// taken back.
+/// have too little room and a kind may be unknown. Some begin with two shells and questions about them.
+/// Many undos at the end reach back beyond what can be taken back.
 pub fn faulty() -> Vec<Question> {
     let mut random = Random::new(12, 0);
     let any_question = || faulty_question(&mut random);
@@ -185,6 +230,9 @@ fn faulty_question(random: &mut Random) -> Question {
         farthest: [2; 3],
     };
     let mut run = Run::default();
+    if random.once_in(SHELLS_ONCE_IN) {
+        push_tetrahedra(random, &mut run);
+    }
     for _ in 0..random.index(FAULTY_CALLS) {
         run.push(any_call(random, &style));
     }
@@ -202,6 +250,28 @@ fn faulty_question(random: &mut Random) -> Question {
     run.calls.truncate(shortened(random, run.calls.len()));
     run.numbers.truncate(shortened(random, run.numbers.len()));
     Question { run, answers_length }
+}
+
+/// A large tetrahedron and a small one, of which each now and then lacks a triangle. The small one is moved
+/// about, inside the large one, into its skin and beside it, and before each move they are asked about both
+/// ways.
+fn push_tetrahedra(random: &mut Random, run: &mut Run) {
+    let [p, q] = random.pick(&[[0, 1], [1, 0], [PARTS - 1, 7]]);
+    for (first_slot, part, half_edge) in [(0, p, 6), (4, q, 1)] {
+        let mut shell = tetrahedron(half_edge);
+        if random.once_in(8) {
+            shell.truncate(shell.len() - TRIANGLE_NUMBERS);
+        }
+        run.push_places(first_slot, part, &shell);
+    }
+    for _ in 0..SHELL_MOVES {
+        run.push_question(p, q);
+        run.push_question(q, p);
+        run.push(Call {
+            about: [SHIFT, q, 0],
+            numbers: any_move(random, [4; 3]),
+        });
+    }
 }
 
 /// Now and then fewer.

@@ -1,6 +1,7 @@
 //! Lists that are closed surfaces: a cube whose faces are cut into small triangles, and a sphere, for
 //! which the corners of those triangles are pushed outwards; and such a list with slivers in it, as
-//! scans have them.
+//! scans have them. And closed shells, in which each edge has its reverse: an octahedron with its faces
+//! split, and a tetrahedron.
 
 use crate::ordinary::TRIANGLE_NUMBERS;
 
@@ -70,4 +71,40 @@ pub fn with_slivers(list: &[i32]) -> Vec<i32> {
         triangle.copy_from_slice(sliver.as_flattened());
     }
     slivered
+}
+
+/// Each face is split into four by the middles of its edges: 32 triangles. The radius, from the middle to
+/// the six tips, is even, so that these middles are whole.
+pub fn octahedron(middle: Point, radius: i32) -> Vec<i32> {
+    let mut list = Vec::new();
+    for x in [-radius, radius] {
+        for y in [-radius, radius] {
+            for z in [-radius, radius] {
+                let [a, b, c] = [[x, 0, 0], [0, y, 0], [0, 0, z]].map(|tip| sum(middle, tip));
+                // Neighbours differ in one sign, and go around the other way.
+                let is_mirrored = (x < 0) ^ (y < 0) ^ (z < 0);
+                let face = if is_mirrored { [a, c, b] } else { [a, b, c] };
+                list.extend(split(face).as_flattened().as_flattened());
+            }
+        }
+    }
+    list
+}
+
+/// A triangle at each corner, and the one between them.
+fn split([a, b, c]: [Point; 3]) -> [[Point; 3]; 4] {
+    let [ab, bc, ca] = [(a, b), (b, c), (c, a)].map(|(u, v)| sum(u, v).map(|double| double / 2));
+    [[a, ab, ca], [ab, b, bc], [ca, bc, c], [ab, bc, ca]]
+}
+
+/// Four triangles. Their corners are every second one of a cube around the middle of the grid.
+pub fn tetrahedron(half_edge: i32) -> Vec<i32> {
+    let corners: [Point; 4] = [[1, 1, 1], [1, -1, -1], [-1, 1, -1], [-1, -1, 1]];
+    let [a, b, c, d] = corners.map(|corner| corner.map(|sign| sign * half_edge));
+    let triangles = [[a, b, c], [a, c, d], [a, d, b], [b, d, c]];
+    triangles.as_flattened().as_flattened().to_vec()
+}
+
+fn sum(a: Point, b: Point) -> Point {
+    [a[0] + b[0], a[1] + b[1], a[2] + b[2]]
 }

@@ -1,12 +1,13 @@
 //! The ordinary plate: takes what `zg_plate` takes, makes the same checks in the same order and gives
 //! the same six numbers a call. Here are the calls and the journal. Beneath them are the slots, of
 //! which there are two kinds: those in `kept` keep the count, those in `recounted` test every pair
-//! each time that they are asked for it.
+//! each time that they are asked for it. Whether two parts clash is no matter of the count, and is found
+//! from their triangles each time.
 
 pub mod kept;
 pub mod recounted;
 
-use super::{answered, checked_shape, meet, refusal, Answer, Point, Triangle, GRID, TRIANGLE_NUMBERS};
+use super::{answered, checked_shape, meet, refusal, shells, Answer, Point, Triangle, GRID, TRIANGLE_NUMBERS};
 use std::collections::VecDeque;
 
 pub const SLOTS: usize = 64;
@@ -19,7 +20,7 @@ pub const CALL_NUMBERS: usize = 3;
 /// Refusal number, side, place, count, reach, value.
 pub const ANSWER_NUMBERS: usize = 6;
 
-// The kinds of calls, as document 01 has them; the last is its Parts.
+// The kinds of calls, as document 01 has them; the last is its Parts, by the rule of document 02's Q-4.
 pub const PLACE: u32 = 1;
 pub const LIFT: u32 = 2;
 pub const SHIFT: u32 = 3;
@@ -173,14 +174,23 @@ impl<S: Slots> Plate<S> {
         Ok(0)
     }
 
-    /// Whether a triangle of the part p has a point in common with one of the part q, which is another.
+    /// Whether the skins of the parts p and q meet, or a corner of one is inside the other. No part clashes
+    /// with itself.
     fn parts_clash(&self, p: u32, q: u32) -> Result<u64, Answer> {
         check_part(p, 0)?;
         check_part(q, 1)?;
-        self.check_held(p, 0)?;
-        self.check_held(q, 1)?;
-        let clashes = |one: &Held| self.held_of(q).any(|other| one.clashes(other));
-        Ok(u64::from(self.held_of(p).any(clashes)))
+        let shell = self.shell_of(p, 0)?;
+        let other = self.shell_of(q, 1)?;
+        if p == q {
+            return Ok(0);
+        }
+        if shells::skins_meet(&shell, &other) {
+            return Ok(1);
+        }
+        check_closed(&shell, p, 0)?;
+        check_closed(&other, q, 1)?;
+        let has_inside = shells::has_corner_inside(&shell, &other) || shells::has_corner_inside(&other, &shell);
+        Ok(u64::from(has_inside))
     }
 
     fn note(&mut self, change: Change) {
@@ -192,6 +202,12 @@ impl<S: Slots> Plate<S> {
 
     fn held_of(&self, part: u32) -> impl Iterator<Item = &Held> {
         self.slots.held().iter().flatten().filter(move |held| held.part == part)
+    }
+
+    /// The triangles of a part, of which there has to be one.
+    fn shell_of(&self, part: u32, side: u64) -> Result<Vec<Triangle>, Answer> {
+        self.check_held(part, side)?;
+        Ok(self.held_of(part).map(|held| held.triangle).collect())
     }
 
     fn check_held(&self, part: u32, side: u64) -> Result<(), Answer> {
@@ -226,5 +242,13 @@ fn check_part(part: u32, side: u64) -> Result<(), Answer> {
         Ok(())
     } else {
         Err(refusal(7, side, part as usize))
+    }
+}
+
+fn check_closed(shell: &[Triangle], part: u32, side: u64) -> Result<(), Answer> {
+    if shells::is_closed(shell) {
+        Ok(())
+    } else {
+        Err(refusal(16, side, part as usize))
     }
 }
