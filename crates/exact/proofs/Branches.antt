@@ -6,6 +6,7 @@ use native.Mathlib.Omega.{arith}
 use native.Mathlib.Decide.{ℕ-discrete}
 use borrow.Author.Tests.{eq-eqb, ne-eqb}
 use lib.Dec.{eqb}
+use mir.Val.{boolByte}
 
 -- The machine's test r is the decision's test t: the answer is that of the branch.
 pub if-taken : {A : Type 0} {r t : Bool} (x y : A) {answer : A} → r ≡ t → r ≡ true → answer ≡ x → answer ≡ cond t x y
@@ -36,6 +37,11 @@ as-it-is {t} e = e ∙ itself t
     itself : (t : Bool) → t ≡ cond t true false
     itself true = refl
     itself false = refl
+
+-- A test as a number.
+pub bit≤ : (b : Bool) → boolByte b ≤ 1
+bit≤ true = omega arith
+bit≤ false = omega arith
 
 -- A number that is neither 0 nor 1, where everything from 2 on is taken as 2.
 pub two-or-more : {A : Type 0} (f : ℕ → A) → ((n : ℕ) → f 2 ≡ f (suc (suc n))) → (k : ℕ) → (k ≡ 0 → ⊥) → (k ≡ 1 → ⊥) → f 2 ≡ f k

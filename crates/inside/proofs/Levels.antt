@@ -11,17 +11,17 @@ use lib.IntN.{ℤ, pos, negsuc}
 use Rattle.shape.specs.Signs.{sign, digit}
 use Rattle.shape.specs.InsideTest.{leading, firstOf}
 
-pub leading-told : (x : ℤ) (xs : List ℤ) → (digit (sign x) ≡ 1 → ⊥) → digit (sign x) ≡ leading (x ∷ xs)
+leading-told : (x : ℤ) (xs : List ℤ) → (digit (sign x) ≡ 1 → ⊥) → digit (sign x) ≡ leading (x ∷ xs)
 leading-told (pos zero) xs h = absurd (h refl)
 leading-told (pos (suc n)) xs h = refl
 leading-told (negsuc n) xs h = refl
 
-pub leading-passed : (x : ℤ) (xs : List ℤ) → digit (sign x) ≡ 1 → leading xs ≡ leading (x ∷ xs)
+leading-passed : (x : ℤ) (xs : List ℤ) → digit (sign x) ≡ 1 → leading xs ≡ leading (x ∷ xs)
 leading-passed (pos zero) xs h = refl
 leading-passed (pos (suc n)) xs h = absurd (omega (arith, h))
 leading-passed (negsuc n) xs h = absurd (omega (arith, h))
 
-pub leading-two : (x y : ℤ) → firstOf (digit (sign x)) (digit (sign y)) ≡ leading (x ∷ y ∷ [])
+leading-two : (x y : ℤ) → firstOf (digit (sign x)) (digit (sign y)) ≡ leading (x ∷ y ∷ [])
 leading-two (pos zero) (pos zero) = refl
 leading-two (pos zero) (pos (suc m)) = refl
 leading-two (pos zero) (negsuc m) = refl

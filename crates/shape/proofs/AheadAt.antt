@@ -7,8 +7,8 @@ use mathlib.Core.Logic.{_↔_}
 use Prim.Native.Nat.{ℕ, _<_}
 use native.Mathlib.Omega.{arith}
 use lib.Dec.{ltb→lt}
-use lib.ListN.{length, length-map}
-use lib.IntN.{ℤ, pos, natAbs, _+ℤ_, _*ℤ_}
+use lib.ListN.{length}
+use lib.IntN.{ℤ, pos, natAbs, _*ℤ_}
 use lib.Signed.{_≤ℤ_, _<ℤ_}
 use Rattle.algebra.proofs.Expression.{Ex, var, _⊞_, _⊟_, _⊠_, neg}
 use Rattle.algebra.proofs.Solver.{ring}
@@ -16,7 +16,7 @@ use Rattle.algebra.proofs.Order.{0≤-pos, 0<-pos}
 use Rattle.algebra.proofs.Certificate.{Rel, _≦_, _≺_, _≐_, hyp, eqn, sqr, num, _⊕_, _⊗_, prove≤, prove<}
 use Rattle.shape.specs.Points.{Point, Shape, coord}
 use Rattle.shape.specs.Signs.{turnIn, side}
-use Rattle.shape.specs.Sharing.{total, weigh, PointOf}
+use Rattle.shape.specs.Sharing.{total, weigh}
 use Rattle.shape.proofs.Symbols.{O, PointE, point, sideOf}
 use Rattle.shape.proofs.Meeting.{pointWith, coord-pointWith, NonNegative, totalℤ, weighℤ, total-natural, weigh-natural}
 use Rattle.shape.specs.Inside.{Ahead}

@@ -1,8 +1,7 @@
 -- A triangle is counted, for every n large enough, exactly where the levels of its edges and of its plane are alike (specs/InsideTest.antt). For n the
 -- turns and the side are a power of n times a polynomial in n, so Eventually.antt gives their signs. The polynomials of the edges add up to a
 -- positive multiple of the shadow's turn: where they are alike the shadow is not flat and has their sign. Assumes nothing.
-use mathlib.Core.Path.{_≡_, refl, sym, _∙_, subst}
-use mathlib.Core.Bool.{Bool}
+use mathlib.Core.Path.{_≡_, refl, _∙_, subst}
 use mathlib.Core.List.{List, [], _∷_}
 use mathlib.Core.Logic.{_↔_, _⊎_, inl, inr}
 use Prim.Native.Nat.{ℕ, zero, suc, _+_, _≤_}

@@ -1,17 +1,17 @@
 -- A polynomial in n, given by its coefficients with the highest first, has for every n large enough the sign of the first coefficient that
 -- isn't zero. n is large enough beyond the sum of the sizes of all coefficients: after the first one that isn't zero Horner's sum is 1 or more
 -- in size, and stays so, since it is multiplied by n and changed by less than n. Assumes nothing.
-use mathlib.Core.Path.{_≡_, refl, sym, _∙_, ap, subst}
+use mathlib.Core.Path.{_≡_, refl, sym, subst}
 use mathlib.Core.List.{List, [], _∷_}
 use Prim.Native.Nat.{ℕ, zero, suc, _+_, _≤_, _<_}
 use native.Mathlib.Omega.{arith}
 use lib.Dec.{lt→ltb}
-use lib.IntN.{ℤ, pos, negsuc, natAbs, negℤ, _+ℤ_, _-ℤ_, _*ℤ_, zero-*ℤ}
+use lib.IntN.{ℤ, pos, negsuc, natAbs, negℤ, _+ℤ_, _-ℤ_, _*ℤ_}
 use lib.Signed.{_≤ℤ_, _<ℤ_}
 use Rattle.algebra.proofs.Expression.{var, lit, _⊞_, _⊟_, _⊠_, neg}
 use Rattle.algebra.proofs.Solver.{ring}
-use Rattle.algebra.proofs.Order.{0<-pos, one-le, sub-pos, lt-of-sub}
-use Rattle.algebra.proofs.Certificate.{_≦_, _≺_, _≐_, hyp, eqn, num, _⊕_, _⊗_, prove≤, prove<}
+use Rattle.algebra.proofs.Order.{0<-pos, one-le, sub-pos}
+use Rattle.algebra.proofs.Certificate.{_≦_, _≺_, hyp, num, _⊕_, _⊗_, prove≤, prove<}
 use Rattle.shape.specs.InsideTest.{leading}
 
 -- ---- the value at n, by Horner's rule

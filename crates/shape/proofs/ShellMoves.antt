@@ -1,12 +1,12 @@
 -- A point and a shell moved by one vector: the point is inside exactly where it was, and the shell is closed exactly where it was. What decides are
 -- differences of coordinates, which stay. Assumes nothing.
 use mathlib.Core.Path.{_≡_, refl, sym, ap, _∙_}
-use mathlib.Core.Bool.{Bool, true, false, cond}
+use mathlib.Core.Bool.{false, cond}
 use mathlib.Core.List.{List, [], _∷_, _++_, map}
 use mathlib.Core.Logic.{_↔_}
 use Prim.Native.Nat.{ℕ, suc}
 use lib.Dec.{eqb}
-use lib.IntN.{ℤ, pos, _+ℤ_, _-ℤ_, _*ℤ_}
+use lib.IntN.{ℤ, pos, _-ℤ_, _*ℤ_}
 use Rattle.algebra.proofs.Expression.{var, _⊞_, _⊟_}
 use Rattle.algebra.proofs.Solver.{ring}
 use Rattle.shape.specs.Points.{Point, Shape, coord, moved, movedAll}
@@ -15,7 +15,7 @@ use Rattle.shape.specs.Flat.{isZero, allBelow}
 use Rattle.shape.specs.Lists.{heldBy}
 use Rattle.shape.specs.Normals.{minors}
 use Rattle.shape.specs.Inside.{Inside}
-use Rattle.shape.specs.Shells.{Edge, reverse, samePoint, sameEdge, edgesOf, occurs, eachOnce, isClosed}
+use Rattle.shape.specs.Shells.{Edge, reverse, sameEdge, edgesOf, occurs, eachOnce, isClosed}
 use Rattle.shape.specs.InsideTest.{leading, edgeLevel, planeLevel, allAlike, isAhead, oddWith, oddAhead}
 use Rattle.shape.proofs.VerdictLaws.{says-yes, says-fixed}
 use Rattle.shape.proofs.Trading.{coord-moved}

@@ -1,7 +1,7 @@
 -- The triangles at the front of a list of numbers, one after the other: a search among them, how many of them lie ahead of a point, and where their
 -- numbers stand. Assumes nothing.
 use mathlib.Core.Path.{_≡_, refl, sym, ap, _∙_}
-use mathlib.Core.Bool.{Bool, true, false, not, cond}
+use mathlib.Core.Bool.{Bool, true, false, cond}
 use mathlib.Core.List.{List, [], _∷_, _++_}
 use Prim.Native.Nat.{ℕ, zero, suc, _+_, _*_, _<_}
 use native.Mathlib.Decide.{ℕ-discrete}
@@ -10,7 +10,7 @@ use native.Mathlib.Omega.{arith}
 use lib.IntN.{ℤ, pos}
 use lib.ListN.{getD, take, drop}
 use lib.Seq.{getD-take, getD-drop}
-use Rattle.shape.specs.Points.{Point, Shape, pointsAt}
+use Rattle.shape.specs.Points.{Point, Shape, pointAt, pointsAt}
 use Rattle.shape.specs.Lists.{some}
 use Rattle.shape.specs.InsideTest.{isAhead, oddWith, oddAhead}
 use Rattle.shape.specs.TriangleLists.{triangleAt, trianglesIn}
@@ -99,6 +99,10 @@ triangle-at numbers i =
     let h = n 7 (suc (p + 3 + 3)) (omega arith) (omega arith) in
     let k = n 8 (suc (suc (p + 3 + 3))) (omega arith) (omega arith) in
     λ x. (a x ∷ b x ∷ c x ∷ []) ∷ (d x ∷ e x ∷ f x ∷ []) ∷ (g x ∷ h x ∷ k x ∷ []) ∷ []
+
+-- Its third corner, as code names it.
+pub third-corner : (i : ℕ) (numbers : List ℤ) → pointAt 3 (9 * i + 6) numbers ≡ pointAt 3 (9 * i + 3 + 3) numbers
+third-corner i numbers = ap (λ (p : ℕ). pointAt 3 p numbers) {x = 9 * i + 6} {y = 9 * i + 3 + 3} (omega arith)
 
 -- Lists with the same nine numbers at each of the first n triangles have these in common; and one triangle more at the end.
 pub triangles-same : (n : ℕ) (l m : List ℤ) → ((j : ℕ) → j < n → take 9 (drop (9 * j) l) ≡ take 9 (drop (9 * j) m)) → trianglesIn n l ≡ trianglesIn n m

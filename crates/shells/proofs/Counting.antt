@@ -2,20 +2,15 @@
 use mathlib.Core.Path.{_≡_, refl, sym, ap, _∙_}
 use mathlib.Core.Bool.{Bool, true, false, cond}
 use mathlib.Core.List.{List, [], _∷_, _++_}
-use Prim.Native.Nat.{ℕ, suc, _+_, _≤_}
+use Prim.Native.Nat.{ℕ, suc, _+_}
 use native.Mathlib.Numerals.{add-one}
 use native.Mathlib.Omega.{arith}
 use lib.IntN.{ℤ}
 use mir.Val.{boolByte}
-use Rattle.shape.specs.Points.{Shape}
 use Rattle.shape.specs.Lists.{heldBy}
 use Rattle.shape.specs.Shells.{Edge, sameEdge, edgesOf, occurs}
 use Rattle.shape.specs.TriangleLists.{triangleAt, trianglesIn}
 use Rattle.shape.proofs.ListLaws.{held-append}
-
-pub bit≤ : (b : Bool) → boolByte b ≤ 1
-bit≤ true = omega arith
-bit≤ false = omega arith
 
 -- Three tests counted, as `occurs` counts them.
 abbrev pub three : Bool → Bool → Bool → ℕ

@@ -1,7 +1,7 @@
 -- From the decision that code computes (specs/Counting.antt) to the definition (specs/Slots.antt), whatever the slots are: two slots strike
 -- exactly when they clash, so both ways alike; the tally is the number of clashing pairs, and there is one such number; and two marks strike
 -- exactly when the skins of their parts meet. Assumes nothing.
-use mathlib.Core.Path.{_≡_, refl, sym, ap, ap₂, _∙_}
+use mathlib.Core.Path.{_≡_, refl, sym, ap₂, _∙_}
 use mathlib.Core.Bool.{Bool, true, false, cond}
 use mathlib.Core.List.{List, [], _∷_, map}
 use Prim.Native.Nat.{ℕ, zero, suc, _+_, _<_}

@@ -14,6 +14,7 @@ use lib.ListN.{length, getD, take, set, length-set, length-map}
 use lib.Seq.{set-set, take-all}
 use mir.Val.{boolByte}
 use Rattle.shape.specs.Points.{moved}
+use Rattle.exact.proofs.Branches.{bit≤}
 use Rattle.slots.specs.Slots.{Slot, free, held}
 use Rattle.slots.specs.Changes.{shifted}
 use Rattle.slots.specs.Arrays.{numbersOf, markOf}
@@ -52,10 +53,6 @@ hit-free x y e = ap boolByte (strikes-free x y e)
 hit-same : (x y : Slot) → markOf x ≡ markOf y → hit x y ≡ 0
 unfolding hit
 hit-same x y e = ap boolByte (strikes-same x y e)
-
-pub bit≤ : (b : Bool) → boolByte b ≤ 1
-bit≤ true = omega arith
-bit≤ false = omega arith
 
 hit≤ : (x y : Slot) → hit x y ≤ 1
 unfolding hit

@@ -10,17 +10,16 @@ use borrow.Author.Tests.{eq-eqb, ne-eqb}
 use borrow.Rule.Slice.PartMut.{putMid}
 use lib.Dec.{eqb}
 use lib.IntN.{ℤ}
-use lib.ListN.{length, getD, take, drop}
+use lib.ListN.{length, getD, take}
 use lib.Seq.{take-all}
 use Rattle.algebra.proofs.Parts.{put-here, put-before}
 use Rattle.shape.specs.Points.{Shape}
 use Rattle.shape.specs.TriangleLists.{trianglesIn}
 use Rattle.shape.proofs.TriangleLists.{triangles-more}
-use Rattle.exact.specs.Grid.{Ready}
 use Rattle.slots.specs.Slots.{Slot, free, held, triangle, isOf}
 use Rattle.slots.specs.Parts.{trianglesOf}
-use Rattle.slots.specs.Arrays.{numbersOf, markOf}
-use Rattle.slots.specs.Showing.{nineAt, Shown}
+use Rattle.slots.specs.Arrays.{numbersOf}
+use Rattle.slots.specs.Showing.{Shown}
 use Rattle.slots.proofs.Clashing.{mark-of}
 use Rattle.slots.proofs.Arrays.{mark-is}
 

@@ -5,7 +5,7 @@ use mathlib.Core.List.{List, [], _∷_}
 use Prim.Native.Nat.{ℕ}
 use lib.Dec.{eqb}
 use lib.ListN.{getD}
-use Rattle.shape.specs.Points.{Point, Shape}
+use Rattle.shape.specs.Points.{Point}
 use Rattle.shape.specs.Verdicts.{Says}
 use Rattle.shape.specs.Inside.{Inside}
 use Rattle.shape.specs.Shells.{cornersOf}

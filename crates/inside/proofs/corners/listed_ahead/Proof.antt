@@ -1,10 +1,8 @@
 -- `inside::corners::listed_ahead` meets its contract: the corners are those of the list. Assumes nothing.
-use mathlib.Core.Path.{_≡_, _∙_}
+use mathlib.Core.Path.{_∙_}
 use mathlib.Core.List.{[], _∷_}
-use Prim.Native.Nat.{ℕ, _+_, _*_}
-use native.Mathlib.Omega.{arith}
-use Rattle.shape.specs.Points.{pointAt}
 use Rattle.shape.specs.InsideTest.{isAhead}
+use Rattle.shape.proofs.TriangleLists.{third-corner}
 use Rattle.exact.specs.Vectors.{spatial}
 use Rattle.exact.proofs.GridLaws.{sized-point}
 use borrow.Author.Needs.{needs}
@@ -49,8 +47,7 @@ returns c =
     let x = c .before .before .before .space-point .ensures in
     let y = c .before .before .space-point2 .ensures in
     let a = c .before .before .before .before .args in
-    let six : 9 * a .i + 6 ≡ 9 * a .i + 3 + 3 = omega arith in
-    let z = c .before .space-point3 .ensures ∙ (λ k. pointAt 3 (six k) (a .triangles .now)) in
+    let z = c .before .space-point3 .ensures ∙ third-corner (a .i) (a .triangles .now) in
     c .triangle-ahead .ensures ∙ (λ k. isAhead (spatial (a .p)) (x k ∷ y k ∷ z k ∷ []))
 
 pub listed-ahead-spec : {M : Type 1} → statement M

@@ -1,13 +1,13 @@
 -- `inside::corners::listed_inside` meets its contract: the three corners in turn. Assumes nothing.
-use mathlib.Core.Path.{_≡_, refl, ap, _∙_}
+use mathlib.Core.Path.{refl, ap, _∙_}
 use mathlib.Core.Bool.{Bool}
 use mathlib.Core.List.{List}
-use Prim.Native.Nat.{ℕ, _+_, _*_}
-use native.Mathlib.Omega.{arith}
+use Prim.Native.Nat.{ℕ}
 use lib.IntN.{ℤ}
-use Rattle.shape.specs.Points.{Point, pointAt}
+use Rattle.shape.specs.Points.{Point}
 use Rattle.shape.specs.InsideTest.{oddAhead}
 use Rattle.shape.specs.TriangleLists.{trianglesIn}
+use Rattle.shape.proofs.TriangleLists.{third-corner}
 use Rattle.exact.proofs.Branches.{if-taken, if-left, as-it-is}
 use Rattle.exact.proofs.GridLaws.{sized-point}
 use borrow.Author.Needs.{needs}
@@ -76,10 +76,9 @@ returns-3 c =
     let t = k .before .before in
     let a = t .before .args in
     let f = test (a .many) (a .others .now) in
-    let six : 9 * a .i + 6 ≡ 9 * a .i + 3 + 3 = omega arith in
     if-left _ _ (k .before .odd-ahead .ensures ∙ ap f (t .space-point .ensures)) (k .if1 .left)
     (if-left _ _ (j .before .odd-ahead2 .ensures ∙ ap f (u .space-point2 .ensures)) (j .if2 .left)
-    (as-it-is (c .odd-ahead3 .ensures ∙ ap f (v .space-point3 .ensures ∙ (λ k. pointAt 3 (six k) (a .triangles .now))))))
+    (as-it-is (c .odd-ahead3 .ensures ∙ ap f (v .space-point3 .ensures ∙ third-corner (a .i) (a .triangles .now)))))
 
 pub listed-inside-spec : {M : Type 1} → statement M
 listed-inside-spec =

@@ -1,10 +1,10 @@
 -- `shells::closing::listed_open` meets its contract: the three edges in turn. Assumes nothing.
-use mathlib.Core.Path.{_≡_, refl, _∙_}
+use mathlib.Core.Path.{refl, _∙_}
 use mathlib.Core.List.{List}
 use Prim.Native.Nat.{ℕ, _+_, _*_}
-use native.Mathlib.Omega.{arith}
 use lib.IntN.{ℤ}
 use Rattle.shape.specs.Points.{Point, Shape, pointAt}
+use Rattle.shape.proofs.TriangleLists.{third-corner}
 use Rattle.exact.proofs.Branches.{if-taken, if-left, as-it-is}
 use Rattle.shape.specs.TriangleLists.{trianglesIn}
 use Rattle.shells.specs.Opening.{edgeOpen}
@@ -14,10 +14,6 @@ use Rattle.shells.proofs.closing.listed_open.Tie as tie
 
 abbrev at : ℕ → List ℤ → Point
 at p numbers = pointAt 3 p numbers
-
--- The third corner, as it is read and as it is named.
-six-on : (i : ℕ) → 9 * i + 6 ≡ 9 * i + 3 + 3
-six-on i = omega arith
 
 mul-p : tie.Need-mul-p
 mul-p c = search needs
@@ -48,9 +44,9 @@ returns-2 c =
     let t1 = c .before .before in
     let a = t1 .before .before .args in
     let Ps : List Shape = trianglesIn (a .many) (a .numbers .now) in
-    let six = six-on (a .i) in
+    let r = third-corner (a .i) (a .numbers .now) in
     if-left _ _ (t1 .before .edge-open .ensures) (t1 .if1 .left)
-    (if-taken _ _ (c .before .edge-open2 .ensures ∙ (λ k. edgeOpen Ps (at (9 * a .i + 3) (a .numbers .now), at (six k) (a .numbers .now)))) (c .if2 .taken) refl)
+    (if-taken _ _ (c .before .edge-open2 .ensures ∙ (λ k. edgeOpen Ps (at (9 * a .i + 3) (a .numbers .now), r k))) (c .if2 .taken) refl)
 
 edge-open-requires-3 : tie.Need-edge-open-requires-3
 edge-open-requires-3 c κs = search needs
@@ -61,10 +57,10 @@ returns-3 c =
     let t1 = t2 .before .before in
     let a = t1 .before .before .args in
     let Ps : List Shape = trianglesIn (a .many) (a .numbers .now) in
-    let six = six-on (a .i) in
+    let r = third-corner (a .i) (a .numbers .now) in
     if-left _ _ (t1 .before .edge-open .ensures) (t1 .if1 .left)
-    (if-left _ _ (t2 .before .edge-open2 .ensures ∙ (λ k. edgeOpen Ps (at (9 * a .i + 3) (a .numbers .now), at (six k) (a .numbers .now)))) (t2 .if2 .left)
-    (as-it-is (c .edge-open3 .ensures ∙ (λ k. edgeOpen Ps (at (six k) (a .numbers .now), at (9 * a .i) (a .numbers .now))))))
+    (if-left _ _ (t2 .before .edge-open2 .ensures ∙ (λ k. edgeOpen Ps (at (9 * a .i + 3) (a .numbers .now), r k))) (t2 .if2 .left)
+    (as-it-is (c .edge-open3 .ensures ∙ (λ k. edgeOpen Ps (r k, at (9 * a .i) (a .numbers .now))))))
 
 pub listed-open-spec : {M : Type 1} → statement M
 listed-open-spec =

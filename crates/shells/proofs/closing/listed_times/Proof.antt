@@ -1,10 +1,12 @@
 -- `shells::closing::listed_times` meets its contract: the three edges are counted. Assumes nothing.
-use mathlib.Core.Path.{_≡_, _∙_}
-use Prim.Native.Nat.{ℕ, _+_, _*_, _≤_}
+use mathlib.Core.Path.{_∙_}
+use Prim.Native.Nat.{_+_, _*_, _≤_}
 use native.Mathlib.Omega.{arith}
 use Rattle.shape.specs.Points.{Point, pointAt}
 use Rattle.shape.specs.Shells.{Edge, sameEdge}
-use Rattle.shells.proofs.Counting.{bit≤, three, three-times}
+use Rattle.shape.proofs.TriangleLists.{third-corner}
+use Rattle.exact.proofs.Branches.{bit≤}
+use Rattle.shells.proofs.Counting.{three, three-times}
 use borrow.Author.Needs.{needs}
 use Rattle.shells.proofs.closing.listed_times.Statement.{statement}
 use Rattle.shells.proofs.closing.listed_times.Tie as tie
@@ -68,11 +70,11 @@ returns c =
     let e : Edge = (pointAt 3 (a .a) l, pointAt 3 (a .b) l) in
     let p : Point = pointAt 3 (9 * a .i) l in
     let q : Point = pointAt 3 (9 * a .i + 3) l in
-    let six : 9 * a .i + 6 ≡ 9 * a .i + 3 + 3 = omega arith in (
+    let r = third-corner (a .i) l in (
       omega (arith, x, y, z),
       three-times (one .result) (two .result) (last .result)
           ∙ (λ k. three (one .ensures k) (two .ensures k) (last .ensures k))
-          ∙ (λ k. three (sameEdge e (p, q)) (sameEdge e (q, pointAt 3 (six k) l)) (sameEdge e (pointAt 3 (six k) l, p))),
+          ∙ (λ k. three (sameEdge e (p, q)) (sameEdge e (q, r k)) (sameEdge e (r k, p))),
     )
 
 pub listed-times-spec : {M : Type 1} → statement M

@@ -8,7 +8,8 @@ use lib.ListN.{getD, take}
 use Rattle.slots.specs.Slots.{Slot, free}
 use Rattle.slots.specs.Counting.{row}
 use Rattle.slots.specs.Showing.{Shown}
-use Rattle.slots.proofs.Counts.{bit≤, row-unmarked, row-more, row-all}
+use Rattle.exact.proofs.Branches.{bit≤}
+use Rattle.slots.proofs.Counts.{row-unmarked, row-more, row-all}
 use Rattle.slots.proofs.Arrays.{mark-is}
 use Rattle.slots.proofs.counting.clashes_with.Statement.{statement}
 use Rattle.slots.proofs.counting.clashes_with.Tie as tie

@@ -1,5 +1,5 @@
 -- `slots::gathering::gather_part` meets its contract: the list holds the triangles of the part among the first i slots. Assumes nothing.
-use mathlib.Core.Path.{_≡_, refl, _∙_}
+use mathlib.Core.Path.{_≡_, _∙_}
 use mathlib.Core.List.{List}
 use Prim.Native.Nat.{ℕ, suc, _-_, _≤_}
 use native.Mathlib.Omega.{arith}

@@ -1,17 +1,15 @@
 -- `slots::gathering::gather_slot` meets its contract: a slot of another mark adds nothing, one of this mark its triangle. Assumes nothing.
-use mathlib.Core.Path.{_≡_, refl, sym, ap, subst, _∙_}
+use mathlib.Core.Path.{_≡_, sym, ap, subst, _∙_}
 use mathlib.Core.List.{List, [], _∷_, _++_}
-use Prim.Native.Nat.{ℕ, _+_, _-_, _*_}
+use Prim.Native.Nat.{_+_, _-_, _*_}
 use native.Mathlib.Omega.{arith}
 use borrow.Rule.Slice.PartMut.{putMid}
 use lib.IntN.{ℤ}
 use lib.ListN.{getD, take, drop}
 use Rattle.algebra.proofs.Parts.{part}
-use Rattle.shape.specs.Points.{Shape}
 use Rattle.shape.specs.TriangleLists.{trianglesIn}
 use Rattle.exact.specs.Grid.{Ready}
 use Rattle.slots.specs.Slots.{free, triangle}
-use Rattle.slots.specs.Parts.{trianglesOf}
 use Rattle.slots.specs.Arrays.{numbersOf}
 use Rattle.slots.proofs.Arrays.{numbers-are}
 use Rattle.slots.proofs.Grids.{nine-ready, put-ready}
