@@ -11,6 +11,8 @@
  *     zg_flat      two triangles of the plane, ZG_FLAT_TRIANGLE_LENGTH (6) numbers each
  *     zg_segment   a segment and a triangle of space, ZG_SEGMENT_LENGTH (6) and ZG_TRIANGLE_LENGTH (9) numbers
  *     zg_pair      two triangles of space, ZG_TRIANGLE_LENGTH (9) numbers each
+ *     zg_pair_bytes
+ *                  the same as bytes, ZG_TRIANGLE_BYTES (36) each: told below, at its declaration, with what it answers
  *     zg_list      two lists of triangles of space, ZG_TRIANGLE_LENGTH (9) numbers a triangle; each list has 0 to
  *                  ZG_LIST_TRIANGLES (1024) triangles, so up to ZG_LIST_LONGEST (9216) numbers
  *     zg_plate     calls on a plate: told below, at its declaration, with what it answers
@@ -19,8 +21,8 @@
  * Every number should lie from -ZG_LIMIT to ZG_LIMIT (524288), ends included. Yet any numbers and any lengths may be given.
  * What can't be served is refused.
  *
- * What comes out, of all but zg_plate and zg_sheet. ZG_ANSWER_LENGTH (4) numbers are written to the front of `answer`,
- * and all after the fourth stay:
+ * What comes out, of all but zg_pair_bytes, zg_plate and zg_sheet. ZG_ANSWER_LENGTH (4) numbers are written to the front of
+ * `answer`, and all after the fourth stay:
  *
  *     answer[ZG_AT_REFUSAL]   [0]   the refusal number, ZG_SERVED (0) where the call serves
  *     answer[ZG_AT_SIDE]      [1]   ZG_FIRST (0) for the first or only list, ZG_SECOND (1) for the second; 0 where the call
@@ -47,9 +49,9 @@
  *                              (zg_list)
  *
  * A triangle is flat where its corners lie on one line, equal corners included, and a segment where its ends are equal.
- * zg_segment, zg_pair and zg_list take a flat shape as the segment or the point that it is; only zg_flat and a place, of
- * zg_plate or zg_sheet, refuse one. In zg_list a length is wrong where it is no multiple of nine or is above 9216. A position
- * is that of the number in its whole list, of whatever triangle. Refusals 4 and 5 have side 0.
+ * zg_segment, zg_pair, zg_pair_bytes and zg_list take a flat shape as the segment or the point that it is; only zg_flat and a
+ * place, of zg_plate or zg_sheet, refuse one. In zg_list a length is wrong where it is no multiple of nine or is above 9216. A
+ * position is that of the number in its whole list, of whatever triangle. Refusals 4 and 5 have side 0.
  *
  * Of several faults the first counts: 4; 3, first list before second; then 1 and then 2 of the first list, and of the second;
  * 5. Of several numbers of a list for which 1 could be given, that of the lowest position counts.
@@ -69,17 +71,18 @@
 
 /* ---- The names. All are of type int, and fit the arrays and the results that they are compared with. ---- */
 
-/* Coordinates, and how many numbers the lists have. */
+/* Coordinates, how many numbers the lists have, and how many bytes a triangle takes. */
 #define ZG_LIMIT 524288
 #define ZG_TURN_LENGTH 6
 #define ZG_SIDE_LENGTH 12
 #define ZG_FLAT_TRIANGLE_LENGTH 6
 #define ZG_SEGMENT_LENGTH 6
 #define ZG_TRIANGLE_LENGTH 9
+#define ZG_TRIANGLE_BYTES 36
 #define ZG_LIST_TRIANGLES 1024
 #define ZG_LIST_LONGEST 9216
 
-/* What a call gives back, but for zg_plate and zg_sheet. */
+/* What a call gives back, but for zg_pair_bytes, zg_plate and zg_sheet. */
 #define ZG_TOLD 0
 #define ZG_ANSWER_TOO_SHORT 1
 
@@ -121,9 +124,13 @@
 #define ZG_SIGN_ZERO 1
 #define ZG_SIGN_PLUS 2
 
-/* Values of zg_flat, zg_segment and zg_pair. */
+/*
+ * Values of zg_flat, zg_segment and zg_pair, and results of zg_pair_bytes, which gives so much more than the number of a
+ * refusal where it refuses.
+ */
 #define ZG_APART 0
 #define ZG_MEETING 1
+#define ZG_REFUSED_BASE 100
 
 /* How many numbers of the buffer a pair of zg_list takes. */
 #define ZG_PAIR_LENGTH 2
@@ -203,6 +210,19 @@ uint32_t zg_segment(const int32_t *a, size_t a_length, const int32_t *b, size_t 
  * flat, and is the segment or the point that it is then.
  */
 uint32_t zg_pair(const int32_t *a, size_t a_length, const int32_t *b, size_t b_length, uint64_t *answer, size_t answer_length);
+
+/*
+ * The same verdict for a caller that holds a triangle as ZG_TRIANGLE_BYTES (36) bytes: its nine numbers one after the other,
+ * signed ones of 32 bits, low byte first. Nothing is written; the result tells all.
+ *
+ * Result: ZG_APART (0) or ZG_MEETING (1), or ZG_REFUSED_BASE (100) plus the number of a refusal:
+ *
+ *     ZG_REFUSED_BASE + ZG_WRONG_LENGTH   103   a or b is not 36 bytes long
+ *     ZG_REFUSED_BASE + ZG_OFF_GRID       101   both are, and a number of a or of b is off the grid
+ *
+ * Side and place are not told. zg_pair, on the same numbers, tells them.
+ */
+uint32_t zg_pair_bytes(const uint8_t *a, size_t a_length, const uint8_t *b, size_t b_length);
 
 /*
  * Value: how many pairs of a triangle of a and a triangle of b have a point in common; a touch counts. `buffer` gets them.

@@ -33,6 +33,7 @@ unsafe extern "C" {
         answer: *mut u64,
         answer_len: usize,
     ) -> u32;
+    pub fn zg_pair_bytes(a: *const u8, a_len: usize, b: *const u8, b_len: usize) -> u32;
     pub fn zg_list(
         a: *const i32,
         a_len: usize,

@@ -17,6 +17,7 @@ IS(ZG_SIDE_LENGTH, 4 * 3);
 IS(ZG_FLAT_TRIANGLE_LENGTH, 3 * 2);
 IS(ZG_SEGMENT_LENGTH, 2 * 3);
 IS(ZG_TRIANGLE_LENGTH, 3 * 3);
+IS(ZG_TRIANGLE_BYTES, 3 * 3 * 4);
 IS(ZG_LIST_TRIANGLES, 1024);
 IS(ZG_LIST_LONGEST, 1024 * 9);
 IS(ZG_PAIR_LENGTH, 2);
@@ -54,6 +55,7 @@ IS(ZG_SIGN_ZERO, 0 + 1);
 IS(ZG_SIGN_PLUS, 1 + 1);
 IS(ZG_APART, 0);
 IS(ZG_MEETING, 1);
+IS(ZG_REFUSED_BASE, 100);
 
 IS(ZG_SLOTS, 64);
 IS(ZG_PARTS, 16);
@@ -91,6 +93,7 @@ IS(ZG_UNDO_BODY_LENGTH, 0);
 int turns_left(const int32_t *points);
 int parts_clash(const uint32_t *calls, const int32_t *numbers);
 int is_too_long(const uint8_t *sheet, size_t sheet_length);
+int is_off_grid(const uint8_t *triangle);
 
 int turns_left(const int32_t *points)
 {
@@ -110,4 +113,9 @@ int is_too_long(const uint8_t *sheet, size_t sheet_length)
 {
     static uint8_t text[ZG_SHEET_TEXT_LENGTH];
     return zg_sheet(sheet, sheet_length, text) == sizeof "15 0\n" - 1 && sheet_length > ZG_SHEET_LONGEST;
+}
+
+int is_off_grid(const uint8_t *triangle)
+{
+    return zg_pair_bytes(triangle, ZG_TRIANGLE_BYTES, triangle, ZG_TRIANGLE_BYTES) == ZG_REFUSED_BASE + ZG_OFF_GRID;
 }

@@ -1,16 +1,14 @@
 -- A field that is written is read as the call that it was written for, whatever follows it. Assumes nothing.
 use mathlib.Core.Path.{_≡_, refl, sym, ap, _∙_}
 use mathlib.Core.Bool.{true}
-use mathlib.Core.List.{List, [], _∷_, _++_, append-nil}
+use mathlib.Core.List.{List, [], _∷_, _++_}
 use Prim.Native.Nat.{ℕ, _+_, _<_}
 use native.Mathlib.Omega.{arith}
 use lib.IntN.{ℤ}
 use lib.ListN.{length, length-append}
 use lib.Seq.{take-at, drop-at, drop-drop}
 use Rattle.shape.specs.Points.{coord}
-use Rattle.packing.specs.Reading.{numbersIn}
-use Rattle.packing.specs.Writing.{bytesOf}
-use Rattle.packing.proofs.RoundTrip.{Words, spread-read, numbers-read, length-bytes}
+use Rattle.packing.proofs.RoundTrip.{Words, spread-read, numbers-alone, length-bytes}
 use Rattle.slots.specs.Changes.{place, lift, shift}
 use Rattle.plate.specs.Histories.{Call, change, undo}
 use Rattle.fields.specs.Fields.{tagFits, sizeOf, headOf, bodyOf, behind}
@@ -50,9 +48,9 @@ pub call-read : (c : Call) → Sendable c → callOf (tagOf c) (bodyFor c) ≡ c
 unfolding callOf
 call-read (change (place slot part numbers)) (nine, words) =
     ap (λ (l : List ℤ). change (place slot part l))
-    ((λ i. numbersIn (sym nine i) (sym (append-nil (bytesOf numbers)) i)) ∙ numbers-read words [])
+    (numbers-alone nine words)
 call-read (change (lift slot)) s = refl
-call-read (change (shift part dx dy dz)) words = ap (λ (by : List ℤ). change (shift part (coord 0 by) (coord 1 by) (coord 2 by))) (numbers-read words [])
+call-read (change (shift part dx dy dz)) words = ap (λ (by : List ℤ). change (shift part (coord 0 by) (coord 1 by) (coord 2 by))) (numbers-alone refl words)
 call-read undo s = refl
 
 -- and the field as its head, its body and what follows it.

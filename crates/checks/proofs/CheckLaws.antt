@@ -15,10 +15,10 @@ use Rattle.shape.specs.Verdicts.{Says}
 use Rattle.shape.proofs.FlatLaws.{is-flat}
 use Rattle.checks.specs.Answers.{refused, fine}
 use Rattle.exact.specs.Grid.{limit, Ready}
-use Rattle.checks.specs.Grid.{lowestOff}
+use Rattle.checks.specs.Grid.{lowestOff, allOn}
 use Rattle.checks.specs.Rules.{rightLength, allOnGrid, FlatShapes, refuses-flat, takes-flat, flatChecks}
 use Rattle.checks.proofs.AnswerLaws.{never-fine}
-use Rattle.checks.proofs.GridLaws.{Lowest, lowest, lowest-one, all-on}
+use Rattle.checks.proofs.GridLaws.{Lowest, lowest, lowest-one, all-on, none-off, one-off}
 
 -- ---- the length
 pub data LengthCase (side want : ℕ) (l : List ℤ) : Type 0 where
@@ -81,6 +81,13 @@ grid-case side l = by-test (ltb (lowestOff l) (length l)) refl
     by-test : (t : Bool) → ltb (lowestOff l) (length l) ≡ t → GridCase side l
     by-test true e = not-all (lowest l (ltb-true (lowestOff l) (length l) e)) (ap (λ (t : Bool). cond t (refused 1 side (lowestOff l)) fine) e)
     by-test false e = all (all-on l (ltb-false (lowestOff l) (length l) e)) (ap (λ (t : Bool). cond t (refused 1 side (lowestOff l)) fine) e)
+
+-- By the test of all numbers at once.
+pub all-on-fine : (side : ℕ) (l : List ℤ) → allOn l ≡ true → allOnGrid side l ≡ fine
+all-on-fine side l e = ap (λ (t : Bool). cond t (refused 1 side (lowestOff l)) fine) (none-off l e)
+
+pub not-all-refused : (side : ℕ) (l : List ℤ) → allOn l ≡ false → allOnGrid side l ≡ refused 1 side (lowestOff l)
+not-all-refused side l e = ap (λ (t : Bool). cond t (refused 1 side (lowestOff l)) fine) (one-off l e)
 
 -- A list of the wanted length that the check passes is ready.
 pub fine-ready : {want : ℕ} (side : ℕ) (l : List ℤ) → length l ≡ want → allOnGrid side l ≡ fine → Ready want l

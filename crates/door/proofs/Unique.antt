@@ -1,6 +1,6 @@
--- No second result and no second buffer meet a door's contract: both are fixed by the four numbers of its answer and by the
--- buffer before. Assumes nothing.
-use mathlib.Core.Path.{_≡_, refl, sym, _∙_, subst}
+-- No second result and no second buffer meet a door's contract: both are fixed by the numbers of its answer and by the buffer
+-- before. Assumes nothing.
+use mathlib.Core.Path.{_≡_, refl, sym, ap, _∙_, subst}
 use mathlib.Core.Bool.{Bool, true≢false}
 use mathlib.Core.List.{List}
 use Prim.Native.Nat.{ℕ}
@@ -11,9 +11,9 @@ use Rattle.predicate.specs.Rules.{signRule}
 use Rattle.predicate.proofs.Unique.{rule-fixed}
 use Rattle.listing.proofs.Unique.{list-unique}
 use Rattle.shape.specs.Signs.{digit}
-use Rattle.telling.specs.Numbers.{verdictCode, fourNumbers}
+use Rattle.telling.specs.Numbers.{verdictCode, fourNumbers, oneNumber}
 use Rattle.telling.specs.Buffer.{Written}
-use Rattle.door.specs.Doors.{VerdictWritten, ListWritten, undone, done}
+use Rattle.door.specs.Doors.{VerdictWritten, VerdictTold, BytesTold, wrong-length, judged, ListWritten, undone, done}
 
 -- Whatever the numbers are.
 pub written-unique : {numbers before : List ℕ} {r s : ℕ} {after after′ : List ℕ} →
@@ -47,3 +47,13 @@ list-door-unique {before} {r} {after} (done told e rule w) (done told′ f rule�
     let same = list-unique rule rule′ in
     let both = written-unique (subst (λ (t : Answer ℕ). Written (fourNumbers t) before r after) (same .0) w) w′ in
     (both .0, same .1, both .1)
+
+-- And of the door of bytes, which has no buffer.
+pub told-fixed : {first second : List ℤ} {r s : ℕ} → VerdictTold first second r → VerdictTold first second s → r ≡ s
+told-fixed t u = t .tells ∙ ap (λ (told : Answer Bool). oneNumber (withServed verdictCode told)) (rule-fixed (t .right) (u .right)) ∙ sym (u .tells)
+
+pub bytes-door-unique : {a b : List ℕ} {r s : ℕ} → BytesTold a b r → BytesTold a b s → r ≡ s
+bytes-door-unique (wrong-length h e) (wrong-length g f) = e ∙ sym f
+bytes-door-unique (wrong-length h e) (judged long-a long-b t) = absurd (h (long-a, long-b))
+bytes-door-unique (judged long-a long-b t) (wrong-length g f) = absurd (g (long-a, long-b))
+bytes-door-unique (judged long-a long-b t) (judged long-a′ long-b′ u) = told-fixed t u

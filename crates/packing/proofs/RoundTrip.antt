@@ -1,7 +1,7 @@
 -- What is written is read as it was, and what is read is written as it was: proved once, for every number of bytes and of numbers. Assumes
 -- nothing.
 use mathlib.Core.Path.{_≡_, refl, sym, ap, _∙_, subst}
-use mathlib.Core.List.{List, [], _∷_, _++_}
+use mathlib.Core.List.{List, [], _∷_, _++_, append-nil}
 use Prim.Native.Nat.{ℕ, zero, suc, _+_, _*_, _/_, _%_, _^_, _<_}
 use native.Mathlib.Omega.{arith}
 use lib.IntN.{ℤ}
@@ -57,6 +57,10 @@ numbers-read none rest = refl
 numbers-read (one {z} {l} f w) rest =
     let this : signedOf (lowFirst (spread 4 (bitsOf z))) ≡ z = ap signedOf (spread-read 4 (bitsOf z) (bits-small f)) ∙ signed-bits f in
     (λ i. this i ∷ numbers-read w rest i)
+
+-- or with nothing behind it,
+pub numbers-alone : {numbers : List ℤ} {k : ℕ} → length numbers ≡ k → Words numbers → numbersIn k (bytesOf numbers) ≡ numbers
+numbers-alone {numbers} many words = (λ i. numbersIn (sym many i) (sym (append-nil (bytesOf numbers)) i)) ∙ numbers-read words []
 
 -- and what is read is written as it was.
 pub bytes-read : (k : ℕ) {l : List ℕ} → Bytes l → length l ≡ 4 * k → bytesOf (numbersIn k l) ≡ l

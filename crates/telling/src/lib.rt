@@ -1,6 +1,6 @@
 // What the doors write: the four numbers in which an answer is told, and the front of a lent buffer that they are written to.
 //
-// specs/Numbers.antt gives the four numbers of every answer, specs/Buffer.antt the result and the buffer afterwards.
+// specs/Numbers.antt gives the numbers of every answer, specs/Buffer.antt the result and the buffer afterwards.
 mod answers;
 mod numbers;
 
