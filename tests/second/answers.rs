@@ -1,5 +1,6 @@
 //! Own answers to every call, refusals included, as documents 01 and 02 ask for them.
 
+pub mod bytes;
 pub mod clashes;
 pub mod faults;
 pub mod listing;
@@ -15,6 +16,7 @@ use crate::geometry::thin::{self, Kind};
 use crate::geometry::{Point, Segment, Space, Triangle};
 use faults::{first_refusal, flat_triangle_faults, point_faults, segment_faults, triangle_faults, ListFaults};
 use listing::ListingFindings;
+use std::fmt;
 
 pub const GRID: i32 = 524_288;
 pub const TURN_NUMBERS: usize = 6;
@@ -129,6 +131,17 @@ impl Opinion {
             faults,
             findings: None,
         }
+    }
+
+    /// Compares the two own methods; the error means that this program is at fault.
+    pub fn compare_own(&self, input: &impl fmt::Display) -> Result<(), String> {
+        if self.outcome == self.second_outcome {
+            return Ok(());
+        }
+        let (one, other) = (&self.outcome, &self.second_outcome);
+        Err(format!(
+            "the two own methods differ, so the second program is wrong\n{input}\n  {one:?}\n  {other:?}"
+        ))
     }
 
     fn serving_space(findings: SpaceFindings, faults: Vec<ListFaults>) -> Opinion {

@@ -3,6 +3,7 @@
 //! Rows of triangles in the plane z = 0 are taken as flat pairs as well, with z left out. Row 12 goes on with wires and
 //! pins of many kinds.
 
+pub mod byte_pairs;
 mod listings;
 pub mod sheets;
 pub mod stories;

@@ -2,6 +2,7 @@
 
 use crate::answers::listing::Listing;
 use crate::answers::{self, Opinion, Outcome};
+use crate::byte_pair::BytePair;
 use crate::door::{self, Function, Question, Reply, Room, ANSWER_NUMBERS};
 use std::fmt;
 
@@ -26,6 +27,14 @@ impl Call {
             Call::Segment(first, second) => answers::segment(first, second),
             Call::Pair(first, second) => answers::pair(first, second),
             Call::List(listing) => listing.own_opinion(),
+        }
+    }
+
+    /// The same as bytes, where that can be asked too.
+    pub fn as_bytes(&self) -> Option<BytePair> {
+        match self {
+            Call::Pair(first, second) => Some(BytePair::of_lists(first, second)),
+            _ => None,
         }
     }
 
@@ -85,17 +94,6 @@ impl Call {
             text += "\n  a lent list was written";
         }
         Err(text)
-    }
-
-    /// Compares the two own methods; the error means that this program is at fault.
-    pub fn compare_own(&self, opinion: &Opinion) -> Result<(), String> {
-        if opinion.outcome == opinion.second_outcome {
-            return Ok(());
-        }
-        let (one, other) = (&opinion.outcome, &opinion.second_outcome);
-        Err(format!(
-            "the two own methods differ, so the second program is wrong\n{self}\n  {one:?}\n  {other:?}"
-        ))
     }
 
     fn lists(&self) -> (&'static str, Vec<(&'static str, &[i32])>) {

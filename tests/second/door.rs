@@ -1,6 +1,6 @@
 //! The door: the functions of the library under check, and the room lent to them for an answer, for the answers of a
 //! story, for the pairs of a listing and for the text of a sheet, filled with marks that show afterwards what was
-//! written and what was left.
+//! written and what was left. Slices of bytes have marks around them too.
 //!
 //! The library is x86-64 code. A program for x86-64 has it linked in; any other reaches it through
 //! a relay. Both take a batch of questions and give a batch of replies. The flag `--cfg linked`
@@ -8,11 +8,13 @@
 //! on x86-64 as well, so that the relay can run under a tool that watches memory.
 
 mod lent;
+mod slice;
 
 use crate::answers::plate::PlateAnswer;
 use crate::answers::Outcome;
 use crate::random::Random;
 use lent::{Lent, MARGIN};
+pub use slice::{start_of, LentSlice};
 
 #[cfg(all(any(target_arch = "x86_64", linked), not(relayed)))]
 mod linked;
@@ -84,6 +86,7 @@ pub enum Function {
     List,
     Plate,
     Sheet,
+    PairBytes,
 }
 
 /// A function with the lists and the room to lend it. `Turn` and `Side` take no second list. `Plate` takes the numbers
@@ -94,11 +97,14 @@ pub enum Function {
 /// it, with marks of its own, and looks itself whether they stay; the buffer is the front of that room, packed, which
 /// holds the text. The answer isn't lent: its one number is the seed of the door's marks, and comes back as 1 where all
 /// of these stayed and as 0 elsewhere.
+///
+/// `PairBytes` takes each slice within a list, packed, and is lent neither answer nor buffer.
 pub struct Question<'a> {
     pub function: Function,
     pub first: &'a [i32],
     pub second: &'a [i32],
-    /// Where the pairs of a listing start in the buffer, or how many bytes a sheet has; other calls don't take it.
+    /// Where the pairs of a listing start in the buffer; or how many bytes a sheet has; or how many stand before and
+    /// behind the first slice and the second, a byte to each. Other calls don't take it.
     pub start: u64,
     pub room: &'a Room,
 }
@@ -152,10 +158,23 @@ pub fn wanted_sheet_reply(text: &[u8], room: &Room) -> Reply {
     }
 }
 
+/// What must be seen after two slices with this room, none of which is lent, given the right result.
+pub fn wanted_bytes_reply(result: u64, room: &Room) -> Reply {
+    Reply {
+        result,
+        room: room.clone(),
+        lists_stayed: true,
+    }
+}
+
 /// Bytes as numbers, four to one, the lowest first; the last number is filled up with 0.
 pub fn packed(bytes: &[u8]) -> Vec<u32> {
     let number = |four: &[u8]| u32::from_le_bytes(std::array::from_fn(|i| four.get(i).copied().unwrap_or(0)));
     bytes.chunks(4).map(number).collect()
+}
+
+pub fn packed_list(bytes: &[u8]) -> Vec<i32> {
+    packed(bytes).into_iter().map(|number| number as i32).collect()
 }
 
 pub fn unpacked(numbers: &[u32]) -> Vec<u8> {

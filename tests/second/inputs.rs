@@ -1,8 +1,9 @@
 //! Random inputs of many kinds: tiny grids where special cases abound, the whole grid and its ends, shapes that touch
-//! or nearly do, flat shapes of every kind, every kind of bad list, stories of plates, some of them with closed shells,
-//! and job sheets, good and broken.
+//! or nearly do, flat shapes of every kind, every kind of bad list, triangles as bytes, stories of plates, some of them
+//! with closed shells, and job sheets, good and broken.
 
 mod breaks;
+mod byte_pairs;
 mod faulty;
 mod listing;
 mod plane;
@@ -17,6 +18,7 @@ mod stories;
 mod teller;
 mod thin;
 
+pub use byte_pairs::{any_byte_pair, WRONG_LENGTHS};
 pub use faulty::LONGEST_BAD_LIST;
 pub use listing::{any_listing, tiny_listing};
 pub use plane::{any_flat_pair, any_turn, tiny_flat_pair};

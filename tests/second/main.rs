@@ -1,12 +1,15 @@
-//! The second program: puts the bench rows of document 01, many random inputs, many random stories of a plate and many
-//! random job sheets to the library under check, finds every answer by means of its own, and compares. With `--text` it
-//! asks nothing, but writes pairs and their answers as text. `tests/second/run` says how it is called.
+//! The second program: puts the bench rows of document 01, many random inputs, pairs of triangles in space as bytes
+//! too, many random stories of a plate and many random job sheets to the library under check, finds every answer by
+//! means of its own, and compares. With `--text` it asks nothing, but writes pairs and their answers as text.
+//! `tests/second/run` says how it is called.
 //!
 //! Exit status: 0 no disagreement; 1 a disagreement, a failure of the calls, or a case never met;
 //! 2 bad arguments, or no way to reach the library.
 
 mod answers;
 mod bench;
+mod byte_pair;
+mod byte_pairs;
 mod call;
 mod door;
 mod geometry;
@@ -19,12 +22,16 @@ mod story;
 mod tally;
 mod text;
 
+use answers::Opinion;
+use byte_pair::BytePair;
+use byte_pairs::BytePairs;
 use call::Call;
 use door::{Door, Question, Reply, Room, ANSWER_NUMBERS};
 use random::Random;
 use std::io::Write;
 use std::process::ExitCode;
 use std::time::{SystemTime, UNIX_EPOCH};
+use tally::byte_pairs::BytePairTally;
 use tally::plates::PlateTally;
 use tally::sheets::SheetTally;
 use tally::{Cases, Tally};
@@ -32,8 +39,8 @@ use tally::{Cases, Tally};
 const DEFAULT_PAIRS: u64 = 1_000_000;
 /// From this many pairs on, a case that never came up is a fault of the inputs.
 const PAIRS_THAT_MEET_ALL_CASES: u64 = 100_000;
-/// The same of the finer cases, of how the shapes lay and of where a listing's faults were: the rarest comes up some
-/// twenty times in so many.
+/// The same of the finer cases, of how the shapes lay and of where the faults of a listing or of slices were: the
+/// rarest comes up some twenty times in so many.
 const PAIRS_THAT_MEET_FINER_CASES: u64 = 1_000_000;
 /// A listing has many pairs, so there is one for so many pairs of each other kind.
 const PAIRS_TO_A_LISTING: u64 = 20;
@@ -202,33 +209,55 @@ fn any_pair(settings: &Settings) -> fn(&mut Random) -> Call {
 }
 
 fn compare_all(mut door: Door, settings: &Settings) -> Result<String, String> {
-    let rows = compare_bench(&mut door, settings.seed)?;
-    let stories = plates::compare_stored(&mut door, settings.seed)?;
-    let sheets = sheets::compare_stored(&mut door, settings.seed)?;
-    say(&format!(
-        "bench: {rows} rows, {stories} stories and {sheets} sheets compared"
-    ));
-    let mut tallies = Vec::new();
-    for (stream, plan) in (1..).zip(plans(settings)) {
-        tallies.push(compare_many(&mut door, settings.seed, stream, plan)?);
-    }
-    let plates = compare_stories(&mut door, settings)?;
-    let sheets = compare_sheets(&mut door, settings)?;
+    compare_fixed(&mut door, settings.seed)?;
+    let tallies = compare_random(&mut door, settings)?;
     door.close()?;
-    tallies.iter().for_each(|tally| say(&tally.line()));
-    say(&plates.line());
-    say(&sheets.line());
-    let missed = missed_cases(settings, &tallies, &plates, &sheets);
+    tallies.lines().iter().for_each(|line| say(line));
+    let missed = tallies.missed(settings);
     if !missed.is_empty() {
         return Err(format!("cases never met: {}", missed.join("; ")));
     }
     let tiny = if settings.tiny { "tiny " } else { "" };
-    let inputs = tallies.iter().map(|tally| (tally.compared, tally.inputs()));
-    let counts: Vec<String> = inputs
-        .chain([(plates.stories, "stories"), (sheets.sheets, "sheets")])
+    let counts = tallies.compared().into_iter();
+    let counts: Vec<String> = counts
         .map(|(compared, inputs)| format!("{compared} {tiny}{inputs}"))
         .collect();
     Ok(format!("{}: no disagreement", counts.join(", ")))
+}
+
+/// Compares the door, and this program as well, with all fixed results.
+fn compare_fixed(door: &mut Door, seed: u64) -> Result<(), String> {
+    let rows = compare_bench(door, seed)?;
+    let byte_pairs = byte_pairs::compare_stored(door, seed)?;
+    let stories = plates::compare_stored(door, seed)?;
+    let sheets = sheets::compare_stored(door, seed)?;
+    say(&format!(
+        "bench: {rows} rows, {byte_pairs} pairs as bytes, {stories} stories and {sheets} sheets compared"
+    ));
+    Ok(())
+}
+
+fn compare_random(door: &mut Door, settings: &Settings) -> Result<Tallies, String> {
+    let (mut calls, mut byte_pairs) = (Vec::new(), BytePairs::new(settings.seed));
+    for (stream, plan) in (1..).zip(plans(settings)) {
+        calls.push(compare_many(door, settings.seed, stream, plan, &mut byte_pairs)?);
+    }
+    byte_pairs.compare_many(door, settings.seed, pairs_made_of_bytes(settings))?;
+    Ok(Tallies {
+        calls,
+        byte_pairs: byte_pairs.tally,
+        plates: compare_stories(door, settings)?,
+        sheets: compare_sheets(door, settings)?,
+    })
+}
+
+/// A tiny run has none: its numbers are small, which few bytes make.
+fn pairs_made_of_bytes(settings: &Settings) -> u64 {
+    if settings.tiny {
+        0
+    } else {
+        settings.pairs.div_ceil(4)
+    }
 }
 
 fn compare_stories(door: &mut Door, settings: &Settings) -> Result<PlateTally, String> {
@@ -249,22 +278,51 @@ fn compare_sheets(door: &mut Door, settings: &Settings) -> Result<SheetTally, St
     sheets::compare_many(door, settings.seed, settings.sheets, any_sheet)
 }
 
-/// The cases that never came up, of a run that is large enough for them. Tiny stories and sheets lack some by their
-/// nature.
-fn missed_cases(settings: &Settings, tallies: &[Tally], plates: &PlateTally, sheets: &SheetTally) -> Vec<String> {
-    let mut missed = Vec::new();
-    if settings.pairs >= PAIRS_THAT_MEET_ALL_CASES {
-        let with_finer = settings.pairs >= PAIRS_THAT_MEET_FINER_CASES;
-        let tallies = tallies.iter();
-        missed.extend(tallies.flat_map(|tally| tally.missed(!settings.tiny, with_finer)));
+/// The random inputs that were compared, of every kind.
+struct Tallies {
+    calls: Vec<Tally>,
+    byte_pairs: BytePairTally,
+    plates: PlateTally,
+    sheets: SheetTally,
+}
+
+impl Tallies {
+    fn lines(&self) -> Vec<String> {
+        let lines = self.calls.iter().map(Tally::line);
+        lines
+            .chain([self.byte_pairs.line(), self.plates.line(), self.sheets.line()])
+            .collect()
     }
-    if settings.stories >= STORIES_THAT_MEET_ALL_CASES && !settings.tiny {
-        missed.extend(plates.missed(settings.stories >= STORIES_THAT_MEET_FINER_CASES));
+
+    /// How many there were, and what they are called.
+    fn compared(&self) -> Vec<(u64, &'static str)> {
+        let calls = self.calls.iter().map(|tally| (tally.compared, tally.inputs()));
+        let others = [
+            (self.byte_pairs.compared, "pairs as bytes"),
+            (self.plates.stories, "stories"),
+            (self.sheets.sheets, "sheets"),
+        ];
+        calls.chain(others).collect()
     }
-    if settings.sheets >= SHEETS_THAT_MEET_ALL_CASES && !settings.tiny {
-        missed.extend(sheets.missed());
+
+    /// The cases that never came up, of a run that is large enough for them. Tiny stories and sheets lack some by their
+    /// nature.
+    fn missed(&self, settings: &Settings) -> Vec<String> {
+        let mut missed = Vec::new();
+        if settings.pairs >= PAIRS_THAT_MEET_ALL_CASES {
+            let (with_refusals, with_finer) = (!settings.tiny, settings.pairs >= PAIRS_THAT_MEET_FINER_CASES);
+            let calls = self.calls.iter();
+            missed.extend(calls.flat_map(|tally| tally.missed(with_refusals, with_finer)));
+            missed.extend(self.byte_pairs.missed(with_refusals, with_finer));
+        }
+        if settings.stories >= STORIES_THAT_MEET_ALL_CASES && !settings.tiny {
+            missed.extend(self.plates.missed(settings.stories >= STORIES_THAT_MEET_FINER_CASES));
+        }
+        if settings.sheets >= SHEETS_THAT_MEET_ALL_CASES && !settings.tiny {
+            missed.extend(self.sheets.missed());
+        }
+        missed
     }
-    missed
 }
 
 /// Compares the door, and this program as well, with the fixed results.
@@ -273,7 +331,7 @@ fn compare_bench(door: &mut Door, seed: u64) -> Result<usize, String> {
     let rows = bench::rows();
     for row in &rows {
         let opinion = row.call.own_opinion();
-        row.call.compare_own(&opinion)?;
+        opinion.compare_own(&row.call)?;
         if opinion.outcome != row.outcome {
             let (name, own) = (row.name, opinion.outcome.answer);
             return Err(format!("the second program is wrong on bench row {name}: {own:?}"));
@@ -290,9 +348,15 @@ fn compare_bench(door: &mut Door, seed: u64) -> Result<usize, String> {
     Ok(rows.len())
 }
 
-/// Compares the random inputs of one call. The stream keeps its inputs the same whatever the
-/// other calls take, so the input of a given number depends on the seed alone.
-fn compare_many(door: &mut Door, seed: u64, stream: u64, plan: Plan) -> Result<Tally, String> {
+/// Compares the random inputs of one call, as bytes too where they can be asked so. The stream keeps its inputs the
+/// same whatever the other calls take, so the input of a given number depends on the seed alone.
+fn compare_many(
+    door: &mut Door,
+    seed: u64,
+    stream: u64,
+    plan: Plan,
+    byte_pairs: &mut BytePairs,
+) -> Result<Tally, String> {
     let mut random = Random::new(seed, stream);
     let mut tally = Tally::new(plan.cases);
     while tally.compared < plan.count {
@@ -303,27 +367,35 @@ fn compare_many(door: &mut Door, seed: u64, stream: u64, plan: Plan) -> Result<T
             (call, room)
         };
         let inputs: Vec<(Call, Room)> = (0..size).map(any_input).collect();
-        compare_batch(door, &mut tally, &inputs)?;
+        let as_bytes = compare_batch(door, &mut tally, &inputs)?;
+        byte_pairs.compare(door, as_bytes)?;
     }
     Ok(tally)
 }
 
-/// Compares the inputs that follow those in the tally.
-fn compare_batch(door: &mut Door, tally: &mut Tally, inputs: &[(Call, Room)]) -> Result<(), String> {
+/// Compares the inputs that follow those in the tally. Gives those that can be asked as bytes too, with the own
+/// opinions of them.
+fn compare_batch(
+    door: &mut Door,
+    tally: &mut Tally,
+    inputs: &[(Call, Room)],
+) -> Result<Vec<(BytePair, Opinion)>, String> {
     let (before, size) = (tally.compared, inputs.len() as u64);
     let replies = ask(door, inputs.iter().map(|(call, room)| call.question(room)));
     let replies = replies.map_err(|text| {
         let (name, first, last) = (tally.name(), before + 1, before + size);
         format!("FAILURE on inputs {first} to {last} of zg_{name}: {text}")
     })?;
+    let mut as_bytes = Vec::new();
     for (number, ((call, room), reply)) in (before + 1..).zip(inputs.iter().zip(&replies)) {
         let opinion = call.own_opinion();
-        call.compare_own(&opinion)?;
+        opinion.compare_own(call)?;
         let compared = call.compare_door(&opinion.outcome, room, reply);
         compared.map_err(|text| format!("DISAGREEMENT on input {number} of {text}"))?;
         tally.note(&opinion, room.is_too_short());
+        as_bytes.extend(call.as_bytes().map(|pair| (pair, opinion)));
     }
-    Ok(())
+    Ok(as_bytes)
 }
 
 fn ask<'a>(door: &mut Door, questions: impl Iterator<Item = Question<'a>>) -> Result<Vec<Reply>, String> {

@@ -7,17 +7,21 @@
  * A request is one frame. Its reply is the same frame, of the same size, as the call left it. All numbers in it are
  * little-endian:
  *
- *     bytes 0 to 7     the mark of a frame, 0x7a670004
+ *     bytes 0 to 7     the mark of a frame, 0x7a670005
  *     bytes 8 to 15    in a reply the result; in a request any number
  *     bytes 16 to 19   the call: 1 zg_turn, 2 zg_side, 3 zg_flat, 4 zg_segment, 5 zg_pair, 6 zg_list, 7 zg_plate,
- *                      8 zg_sheet
+ *                      8 zg_sheet, 9 zg_pair_bytes
  *     bytes 20 to 23   how many numbers each margin has
- *     bytes 24 to 27   how many numbers the first list has; for zg_plate it holds the calls, bit for bit, and for
- *                      zg_sheet the sheet, four bytes to a number
- *     bytes 28 to 31   how many numbers the second list has; 0 for zg_turn, zg_side and zg_sheet
- *     bytes 32 to 35   how many numbers the lent answer has, or the lent answers of zg_plate; 1 for zg_sheet
+ *     bytes 24 to 27   how many numbers the first list has; for zg_plate it holds the calls, bit for bit, for zg_sheet
+ *                      the sheet and for zg_pair_bytes the first slice, four bytes to a number
+ *     bytes 28 to 31   how many numbers the second list has; 0 for zg_turn, zg_side and zg_sheet; for zg_pair_bytes it
+ *                      holds the second slice
+ *     bytes 32 to 35   how many numbers the lent answer has, or the lent answers of zg_plate; 1 for zg_sheet, 0 for
+ *                      zg_pair_bytes
  *     bytes 36 to 39   how many numbers the lent buffer has; 0 for all but zg_list and zg_sheet
- *     bytes 40 to 47   the start place, for zg_list; how many bytes the sheet has, for zg_sheet
+ *     bytes 40 to 47   the start place, for zg_list; how many bytes the sheet has, for zg_sheet; for zg_pair_bytes how
+ *                      many bytes of the lists stand before the first slice, behind it, before the second slice and
+ *                      behind it, a byte to each, and four bytes of 0
  *     then             a margin, the lent answer and a margin, unsigned 64-bit numbers
  *     then             a margin, the lent buffer and a margin, unsigned 32-bit numbers
  *     then             the first list and then the second, signed 32-bit numbers
@@ -40,11 +44,11 @@
 
 #include <string.h>
 
-#define MARK 0x7a670004u
+#define MARK 0x7a670005u
 
-enum { TURN = 1, SIDE = 2, FLAT = 3, SEGMENT = 4, PAIR = 5, LIST = 6, PLATE = 7, SHEET = 8 };
+enum { TURN = 1, SIDE = 2, FLAT = 3, SEGMENT = 4, PAIR = 5, LIST = 6, PLATE = 7, SHEET = 8, PAIR_BYTES = 9 };
 /* A listing has 2^20 pairs at most, of two numbers each. The block takes a frame with the longest of everything. */
-enum { LONGEST_LIST = 1 << 14, LONGEST_MARGIN = 64, LONGEST_BUFFER = (1 << 21) + (1 << 14) };
+enum { LONGEST_LIST = 1 << 15, LONGEST_MARGIN = 64, LONGEST_BUFFER = (1 << 21) + (1 << 14) };
 enum { LONGEST_ANSWER = 64, LONGEST_PLATE_ANSWERS = 1 << 14 };
 enum { LONGEST_SHEET = 1 << 20 };
 enum { BLOCK_BYTES = 1 << 24 };
@@ -74,6 +78,40 @@ static int is_well_formed_sheet(const struct head *head)
         && head->second_length == 0 && head->answer_length == 1 && head->buffer_length <= TEXT_BYTES / sizeof(uint32_t);
 }
 
+/* Where a slice of bytes starts in its list, and where it ends, in bytes. */
+struct slice {
+    size_t start;
+    size_t end;
+};
+
+static struct slice slice_in(uint32_t list_length, uint64_t margins)
+{
+    size_t before = margins & 0xff, behind = margins >> 8 & 0xff;
+    return (struct slice){ .start = before, .end = sizeof(int32_t) * list_length - behind };
+}
+
+static struct slice first_slice(const struct head *head)
+{
+    return slice_in(head->first_length, head->start);
+}
+
+static struct slice second_slice(const struct head *head)
+{
+    return slice_in(head->second_length, head->start >> 16);
+}
+
+static int is_well_formed_slice(struct slice slice, uint32_t list_length)
+{
+    return list_length <= LONGEST_LIST && slice.start <= slice.end && slice.end <= sizeof(int32_t) * list_length;
+}
+
+static int is_well_formed_pair_bytes(const struct head *head)
+{
+    return is_well_formed_slice(first_slice(head), head->first_length)
+        && is_well_formed_slice(second_slice(head), head->second_length) && head->answer_length == 0
+        && head->buffer_length == 0;
+}
+
 static int is_well_formed_call(const struct head *head)
 {
     uint32_t longest_second = head->call >= FLAT ? LONGEST_LIST : 0;
@@ -86,8 +124,16 @@ static int is_well_formed_call(const struct head *head)
 
 static int is_well_formed(const struct head *head)
 {
-    return head->mark == MARK && head->margin <= LONGEST_MARGIN
-        && (head->call == SHEET ? is_well_formed_sheet(head) : is_well_formed_call(head));
+    if (head->mark != MARK || head->margin > LONGEST_MARGIN)
+        return 0;
+    switch (head->call) {
+    case SHEET:
+        return is_well_formed_sheet(head);
+    case PAIR_BYTES:
+        return is_well_formed_pair_bytes(head);
+    default:
+        return is_well_formed_call(head);
+    }
 }
 
 /* How many numbers a lent run has with its margins. */
@@ -170,6 +216,20 @@ static uint64_t call_with_loans(const struct head *head, const struct runs *own)
     return result;
 }
 
+/* ---- Slices of bytes ---- */
+
+/* What stands before a slice is lent with it, so that it starts at any address; what stands behind it isn't. */
+static uint64_t judge_slices(const struct head *head, const struct runs *own)
+{
+    struct slice a = first_slice(head), b = second_slice(head);
+    uint8_t *lent_first = lend(FIRST_LOAN, own->first, a.end);
+    uint8_t *lent_second = lend(SECOND_LOAN, own->second, b.end);
+    uint64_t result = zg_pair_bytes(lent_first + a.start, a.end - a.start, lent_second + b.start, b.end - b.start);
+    take_back(lent_first, own->first, a.end);
+    take_back(lent_second, own->second, b.end);
+    return result;
+}
+
 /* ---- Sheets ---- */
 
 /* The room for a text with its margins. All marks stand in it whenever no sheet is read, so that they need not be made
@@ -217,6 +277,20 @@ static uint64_t read_sheet(const struct head *head, const struct runs *own)
     return result;
 }
 
+/* ---- Requests ---- */
+
+static uint64_t result_of(const struct head *head, const struct runs *own)
+{
+    switch (head->call) {
+    case SHEET:
+        return read_sheet(head, own);
+    case PAIR_BYTES:
+        return judge_slices(head, own);
+    default:
+        return call_with_loans(head, own);
+    }
+}
+
 /* Turns the request at the front into its reply. Gives the frame's size, or 0 where it has not arrived whole. */
 static size_t serve(unsigned char *frame, size_t arrived)
 {
@@ -230,7 +304,7 @@ static size_t serve(unsigned char *frame, size_t arrived)
     if (arrived < size)
         return 0;
     struct runs own = runs_of(&head, frame);
-    uint64_t result = head.call == SHEET ? read_sheet(&head, &own) : call_with_loans(&head, &own);
+    uint64_t result = result_of(&head, &own);
     memcpy(frame + offsetof(struct head, result), &result, sizeof result);
     return size;
 }

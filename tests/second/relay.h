@@ -25,7 +25,8 @@ size_t read_some(unsigned char *to, size_t size);
 
 void write_all(const unsigned char *from, size_t size);
 
-/* Gives the memory to lend for a run of the frame: the run itself, or a copy of it. It is aligned as the run is. */
+/* Gives the memory to lend for a run of the frame: the run itself, or a copy of it. It is aligned as the run's numbers need;
+ * bytes need no alignment. */
 void *lend(int loan, void *run, size_t bytes);
 
 /* Ends a loan: what the call left in the lent memory now stands in the run. */

@@ -1,5 +1,6 @@
 //! A job sheet, any bytes at all: answered by own means, put to the door, compared, and shown.
 
+use crate::answers::bytes::bytes_of;
 use crate::answers::plate::PlateCall;
 use crate::answers::sheet::{body_bytes, text_of, Line, Reading};
 use crate::door::{self, Function, Question, Reply, Room, TEXT_BYTES};
@@ -37,8 +38,7 @@ impl Sheet {
         self.bytes.extend([tag, body as u8, 0]);
         let names = names.into_iter().map(|name| u8::try_from(name).expect("a byte"));
         self.bytes.extend(names);
-        self.bytes
-            .extend(numbers.iter().flat_map(|number| number.to_le_bytes()));
+        self.bytes.extend(bytes_of(numbers));
     }
 
     /// Answers the sheet by own means, and finds it room; the error means that this program is at fault. The marks in
@@ -51,9 +51,8 @@ impl Sheet {
         let length = text_of(&lines).len() + random.index(100);
         let mut room = Room::with_marks(random, 1, length.min(TEXT_BYTES).div_ceil(4));
         room.answer.write(0, std::iter::once(seed_of_marks));
-        let packed = door::packed(&self.bytes).into_iter().map(|number| number as i32);
         Ok(AskedSheet {
-            packed: packed.collect(),
+            packed: door::packed_list(&self.bytes),
             sheet: self,
             lines,
             room,

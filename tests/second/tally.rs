@@ -1,12 +1,12 @@
 //! Counts of the cases met by each call, the lines that report them, and the cases that were missed.
 
+pub mod byte_pairs;
 mod listings;
 mod meetings;
 pub mod plates;
 pub mod sheets;
 mod thin;
 
-use crate::answers::faults::ListFaults;
 use crate::answers::{Opinion, OFF_GRID, START_BEYOND_END, WRONG_LENGTH};
 use crate::answers::{FLAT_TRIANGLE_NUMBERS, SEGMENT_NUMBERS, SIDE_NUMBERS, TRIANGLE_NUMBERS, TURN_NUMBERS};
 use crate::inputs::LONGEST_BAD_LIST;
@@ -163,12 +163,7 @@ impl Tally {
             self.refusals[answer.number as usize][answer.side as usize] += 1;
             self.refused.insert((answer.number, answer.side, answer.place));
         }
-        if let [first, second] = &opinion.faults[..] {
-            self.mixtures.note(first, second);
-            if answer.number == OFF_GRID && opinion.faults[answer.side as usize].first_is_flat() {
-                self.mixtures.off_grid_and_flat[answer.side as usize] += 1;
-            }
-        }
+        self.mixtures.note(opinion);
         self.meetings.note(opinion);
     }
 
@@ -256,8 +251,15 @@ fn fault_pairs(refusals: &[u64]) -> Vec<[usize; 2]> {
 }
 
 impl FaultMixtures {
-    fn note(&mut self, first: &ListFaults, second: &ListFaults) {
+    fn note(&mut self, opinion: &Opinion) {
+        let [first, second] = &opinion.faults[..] else {
+            return;
+        };
         self.pairs[first.number_alone() as usize][second.number_alone() as usize] += 1;
+        let (number, side) = (opinion.outcome.answer.number, opinion.outcome.answer.side as usize);
+        if number == OFF_GRID && opinion.faults[side].first_is_flat() {
+            self.off_grid_and_flat[side] += 1;
+        }
     }
 
     fn counts(&self, refusals: &[u64]) -> Vec<Count> {

@@ -25,7 +25,7 @@ pub fn write_pairs(name: &str, pairs: u64, seed: u64, any_pair: fn(&mut Random) 
     for _ in 0..pairs {
         let call = any_pair(&mut random);
         let opinion = call.own_opinion();
-        call.compare_own(&opinion).map_err(io::Error::other)?;
+        opinion.compare_own(&call).map_err(io::Error::other)?;
         if let Call::Pair(first, second) = &call {
             let lists: [&[i32]; 2] = [first, second];
             let mut line_numbers = [0; 2];

@@ -1,6 +1,7 @@
 //! The own reader of job sheets. It cuts a sheet into fields first, which takes no plate, then does the fields on the
 //! own plate, one after the other, and last writes the lines.
 
+use super::bytes::number_at;
 use super::clashes::Clashes;
 use super::plate::{Plate, PlateCall};
 
@@ -140,5 +141,5 @@ fn call_of(tag: u8, body: &[u8]) -> PlateCall {
 }
 
 fn numbers<const N: usize>(bytes: &[u8]) -> [i32; N] {
-    std::array::from_fn(|k| i32::from_le_bytes(std::array::from_fn(|i| bytes[4 * k + i])))
+    std::array::from_fn(|place| number_at(bytes, place))
 }

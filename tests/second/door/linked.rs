@@ -4,7 +4,7 @@
 mod zimogrud;
 
 use super::{packed, unpacked, Function, Lent, Question, Reply, Room, MARGIN, REST_STAYED, TEXT_BYTES};
-use zimogrud::{zg_flat, zg_list, zg_pair, zg_plate, zg_segment, zg_sheet, zg_side, zg_turn};
+use zimogrud::{zg_flat, zg_list, zg_pair, zg_pair_bytes, zg_plate, zg_segment, zg_sheet, zg_side, zg_turn};
 
 pub struct Door;
 
@@ -31,8 +31,8 @@ fn reply_to(question: &Question) -> Reply {
     let (answer, answer_len) = lent_pointer(&mut room.answer);
     let (buffer, buffer_len) = lent_pointer(&mut room.buffer);
     let start = question.start as usize;
-    // SAFETY: each pointer leads to as many numbers as are named, that of a sheet to as many bytes, and nothing else
-    // uses them meanwhile.
+    // SAFETY: each pointer leads to as many numbers as are named, that of a sheet or a slice to as many bytes, and
+    // nothing else uses them meanwhile.
     let result: u64 = unsafe {
         match question.function {
             Function::Turn => zg_turn(a, a_len, answer, answer_len).into(),
@@ -43,6 +43,10 @@ fn reply_to(question: &Question) -> Reply {
             Function::List => zg_list(a, a_len, b, b_len, buffer, buffer_len, start, answer, answer_len).into(),
             Function::Plate => zg_plate(a.cast(), a_len, b, b_len, answer, answer_len),
             Function::Sheet => sheet_result(a.cast(), start, &mut room),
+            Function::PairBytes => {
+                let [(a, a_len), (b, b_len)] = slices_in([(a, a_len), (b, b_len)], question.start);
+                zg_pair_bytes(a, a_len, b, b_len).into()
+            }
         }
     };
     Reply {
@@ -55,6 +59,15 @@ fn reply_to(question: &Question) -> Reply {
 fn lent_pointer<Number: Copy>(lent: &mut Lent<Number>) -> (*mut Number, usize) {
     // Made from the whole run, so that a write into a margin can be seen afterwards.
     (lent.numbers.as_mut_ptr().wrapping_add(MARGIN), lent.length())
+}
+
+/// Where each slice starts within its list, and how many bytes it has.
+fn slices_in(lists: [(*const i32, usize); 2], start: u64) -> [(*const u8, usize); 2] {
+    let margins = start.to_le_bytes().map(usize::from);
+    [0, 1].map(|side| {
+        let ((list, numbers), before, behind) = (lists[side], margins[2 * side], margins[2 * side + 1]);
+        (list.cast::<u8>().wrapping_add(before), 4 * numbers - before - behind)
+    })
 }
 
 /// Lends a text's room whose front is the buffer, and in which the rest, with a margin on both sides, has marks.

@@ -4,10 +4,10 @@
 //! A question is one frame, and its reply is the same frame, of the same size, as the call left
 //! it. All numbers in it are little-endian:
 //!
-//! - the head: a mark and the result (any number in a question), unsigned 64-bit numbers; 1 to 8 for turn, side, flat,
-//!   segment, pair, list, plate or sheet, the length of a margin, and the lengths of the first list, the second list,
-//!   the lent answer and the lent buffer, unsigned 32-bit numbers; and the start place of a listing or the length of a
-//!   sheet in bytes, an unsigned 64-bit number;
+//! - the head: a mark and the result (any number in a question), unsigned 64-bit numbers; 1 to 9 for turn, side, flat,
+//!   segment, pair, list, plate, sheet or pair_bytes, the length of a margin, and the lengths of the first list, the
+//!   second list, the lent answer and the lent buffer, unsigned 32-bit numbers; and the start place of a listing, the
+//!   length of a sheet in bytes or the margins of two slices, an unsigned 64-bit number;
 //! - the lent answer between two margins, unsigned 64-bit numbers;
 //! - the lent buffer between two margins, unsigned 32-bit numbers;
 //! - the first list and then the second, signed 32-bit numbers;
@@ -19,7 +19,7 @@ use std::process::{Child, ChildStdin, ChildStdout, Command, Stdio};
 
 const COMMAND_VARIABLE: &str = "ZG_RELAY";
 
-const FRAME_MARK: u64 = 0x7a67_0004;
+const FRAME_MARK: u64 = 0x7a67_0005;
 const HEAD_BYTES: usize = 2 * 8 + 6 * 4 + 8;
 const RESULT_AT: usize = 8;
 /// Stands where the result will be: the relay has to write over it.
@@ -126,6 +126,7 @@ fn push_frame(bytes: &mut Vec<u8>, question: &Question) -> usize {
         Function::List => 6,
         Function::Plate => 7,
         Function::Sheet => 8,
+        Function::PairBytes => 9,
     };
     let (answer_length, buffer_length) = (room.answer.length(), room.buffer.length());
     bytes.extend([FRAME_MARK, NO_RESULT].map(u64::to_le_bytes).concat());
