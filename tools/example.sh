@@ -3,13 +3,13 @@
 #
 # build_example makes a program from examples/c/PROGRAM.c and, where that calls it, the library, which is x86-64 code: on x86-64
 # with cc and its C library; on another processor, or where there is no cc, with the compiler, the linker, the C library and, if
-# need be, the emulator of the Rattle kit. run_example runs it, once it is made.
-out=target/example
+# need be, the emulator of the Rattle kit. run_example runs it, once it is made, from whatever folder.
+out=$PWD/target/example
 
 build_example() { # PROGRAM
     source=examples/c/$1.c program=$out/$1
     called_library=''
-    if grep -q 'zg_[a-z]*(' "$source"; then
+    if grep -q 'zg_[a-z_]*(' "$source"; then
         need_library
         called_library=$library
     fi
@@ -19,12 +19,18 @@ build_example() { # PROGRAM
     if [ "$(uname -m)" = x86_64 ] && command -v cc >/dev/null; then
         cc -std=c11 -O2 -Wall -Wextra -Wpedantic -I include "$source" ${called_library:+"$called_library"} -o "$made" ||
             die "$1 was not built"
-        run_example() { "$out/$1"; }
+        run_built() { "$@"; }
     else
         build_with_kit "$1"
-        run_example() { run_with_kit "$out/$1"; }
+        run_built() { run_with_kit "$@"; }
     fi
     mv "$made" "$program" || die "$program cannot be made"
+}
+
+run_example() { # PROGRAM ARGUMENT...
+    built=$out/$1
+    shift
+    run_built "$built" "$@"
 }
 
 # Needs no header and no library of this machine, so it is the same on every one.

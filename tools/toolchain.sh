@@ -29,6 +29,6 @@ find_runner() {
 }
 
 # Runs an x86-64 program that is linked with the kit's C library, as rt runs those that it has proved.
-run_with_kit() { # PROGRAM
-    ${emulator:+"$emulator"} "$parts/ld-linux-x86-64.so.2" --library-path "$parts" "$1"
+run_with_kit() { # PROGRAM ARGUMENT...
+    ${emulator:+"$emulator"} "$parts/ld-linux-x86-64.so.2" --library-path "$parts" "$@"
 }

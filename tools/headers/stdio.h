@@ -15,6 +15,8 @@ extern FILE *stderr;
 
 #define EOF (-1)
 
+FILE *fopen(const char *name, const char *mode);
+int fclose(FILE *file);
 int getchar(void);
 size_t fread(void *to, size_t size, size_t count, FILE *file);
 size_t fwrite(const void *from, size_t size, size_t count, FILE *file);
