@@ -5,7 +5,7 @@ mod zimogrud;
 
 use crate::ordinary::sheet::TEXT_BYTES;
 use crate::ordinary::Answer;
-use zimogrud::{zg_list, zg_pair, zg_plate, zg_segment, zg_sheet};
+use zimogrud::{zg_list, zg_pair, zg_pair_bytes, zg_plate, zg_segment, zg_sheet};
 
 type Verdict = unsafe extern "C" fn(*const i32, usize, *const i32, usize, *mut u64, usize) -> u32;
 
@@ -32,6 +32,12 @@ fn verdict(call: Verdict, first: &[i32], second: &[i32]) -> Answer {
         )
     };
     told_answer(result, numbers)
+}
+
+/// The verdict on two triangles as bytes, or 100 and the number of a refusal.
+pub fn pair_bytes(first: &[u8], second: &[u8]) -> u32 {
+    // SAFETY: each pointer leads to as many bytes as are named, and nothing else uses them meanwhile.
+    unsafe { zg_pair_bytes(first.as_ptr(), first.len(), second.as_ptr(), second.len()) }
 }
 
 pub fn list(first: &[i32], second: &[i32], buffer: &mut [u32], start: usize) -> Answer {

@@ -20,10 +20,10 @@ const TINY_END: i32 = 4;
 
 type List = [i32; TRIANGLE_NUMBERS];
 
-/// A shape of N numbers, a triangle or a segment, and a triangle.
-pub struct Pair<const N: usize> {
-    pub first: [i32; N],
-    pub second: List,
+/// A shape of N numbers, a triangle or a segment, and a triangle, of M. The numbers may be bytes.
+pub struct Pair<const N: usize, const M: usize = TRIANGLE_NUMBERS, Number = i32> {
+    pub first: [Number; N],
+    pub second: [Number; M],
 }
 
 /// Pairs of one kind, of which no triangle is flat.
@@ -95,6 +95,11 @@ fn tiny_pair<const N: usize>(random: &mut Random) -> Pair<N> {
         }
     }
     pair
+}
+
+/// The numbers as bytes, each low byte first.
+pub fn bytes_of(numbers: &[i32]) -> Vec<u8> {
+    numbers.iter().flat_map(|number| number.to_le_bytes()).collect()
 }
 
 /// Two lists, of a shape of N numbers and of a triangle, each with no fault or with one or several of: a

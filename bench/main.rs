@@ -1,20 +1,21 @@
 //! The benchmark: times calls of libdoor.a beside ordinary code that does the same job by the same
 //! method, on the same inputs in the same run, and gives the ratio of the two. The calls are `zg_pair`
 //! ("pairs"), `zg_segment` ("segments"), `zg_list` ("listings"), `zg_plate` ("plates") and `zg_sheet`
-//! ("sheets").
+//! ("sheets"). `zg_pair_bytes` ("bytes") is timed beside `zg_pair`, on the same pairs.
 //!
 //! For the pairs, the segments and the listings the ordinary code has 128-bit numbers. With 64-bit
 //! numbers it is timed too, to show what of that is due to the width of the numbers alone. For the plates
 //! and the sheets it has 64-bit numbers. A plate that recounts all pairs at each call is timed too, to
-//! show what keeping the count gains. With --check nothing is timed: the sheets' inputs and a part of the
-//! plates' are compared.
+//! show what keeping the count gains. With --check nothing is timed: the inputs of the bytes and of the
+//! sheets and a part of the plates' are compared.
 //!
 //! `bench/run` says how it is called, and which arguments go together.
 //!
 //! Exit status: 0 all agree; 1 two answers differ, or a ratio of the door is above what --at-most
-//! allows for the pairs and the segments, or with --goals above the goal of a listing, a plate or a
-//! sheet; 2 bad arguments.
+//! allows for the pairs and the segments, or with --goals above the goal of the bytes, a listing, a
+//! plate or a sheet; 2 bad arguments.
 
+mod bytes;
 mod door;
 mod inputs;
 mod listings;
@@ -36,13 +37,14 @@ struct Asked {
     /// Nothing is timed.
     check: bool,
     pairs: bool,
+    bytes: bool,
     segments: bool,
     listings: bool,
     plates: bool,
     sheets: bool,
     /// The highest ratio that is allowed for the pairs and the segments.
     at_most: Option<f64>,
-    /// Whether each listing, each plate and each sheet that is timed has to reach its goal.
+    /// Whether the bytes, each listing, each plate and each sheet that is timed have to reach their goal.
     goals: bool,
 }
 
@@ -55,13 +57,16 @@ fn main() -> ExitCode {
         }
     };
     if asked.check {
-        return status(told(plates::compare()) & told(sheets::compare()));
+        return status(told(bytes::compare()) & told(plates::compare()) & told(sheets::compare()));
     }
     // All are run even if one fails, and each says its last line as soon as it has it.
     let mut all_well = true;
     let at_most = asked.at_most.unwrap_or(f64::INFINITY);
     if asked.pairs {
         all_well &= told(verdicts::pairs(at_most));
+    }
+    if asked.bytes {
+        all_well &= told(bytes::compare_and_time(asked.goals));
     }
     if asked.segments {
         all_well &= told(verdicts::segments(at_most));
@@ -98,6 +103,7 @@ fn read_arguments(mut arguments: impl Iterator<Item = String>) -> Result<Asked, 
     while let Some(name) = arguments.next() {
         match name.as_str() {
             "pairs" => asked.pairs = true,
+            "bytes" => asked.bytes = true,
             "segments" => asked.segments = true,
             "listings" => asked.listings = true,
             "plates" => asked.plates = true,
@@ -110,6 +116,7 @@ fn read_arguments(mut arguments: impl Iterator<Item = String>) -> Result<Asked, 
     }
     let named = [
         &mut asked.pairs,
+        &mut asked.bytes,
         &mut asked.segments,
         &mut asked.listings,
         &mut asked.plates,

@@ -7,7 +7,10 @@ use crate::ordinary::{self, Answer, SEGMENT_NUMBERS, TRIANGLE_NUMBERS};
 use crate::timing::{best_of, nanoseconds_each, say};
 use std::hint::black_box;
 
-const ROUNDS: usize = 101;
+pub const ROUNDS: usize = 101;
+/// The pairs that are timed, and the faulty ones, come from these seeds.
+pub const PAIRS_SEEDS: [u64; 3] = [1, 2, 3];
+pub const FAULTY_PAIRS_SEED: u64 = 4;
 
 /// The last line to print. It is an error where two answers differ or a ratio is too high.
 pub fn pairs(at_most: f64) -> Result<String, String> {
@@ -17,7 +20,7 @@ pub fn pairs(at_most: f64) -> Result<String, String> {
         wide: ordinary::pair::<i128>,
         narrow: ordinary::pair::<i64>,
     };
-    call.compare_and_time::<TRIANGLE_NUMBERS>([1, 2, 3], 4, at_most)
+    call.compare_and_time::<TRIANGLE_NUMBERS>(PAIRS_SEEDS, FAULTY_PAIRS_SEED, at_most)
 }
 
 /// The same of the segments.
@@ -114,7 +117,10 @@ impl<Door: Test, Wide: Test, Narrow: Test> Call<Door, Wide, Narrow> {
     }
 }
 
-fn time_for<const N: usize>(pairs: &[Pair<N>], test: &impl Test) -> f64 {
+pub fn time_for<Number, Told, const N: usize, const M: usize>(
+    pairs: &[Pair<N, M, Number>],
+    test: &impl Fn(&[Number], &[Number]) -> Told,
+) -> f64 {
     nanoseconds_each(pairs.len(), || {
         for pair in pairs {
             black_box(test(black_box(&pair.first[..]), black_box(&pair.second[..])));

@@ -2,7 +2,7 @@
 //! and faulty ones.
 
 use super::plates::{any_middle_triangle, any_move, any_part, any_slot};
-use super::{faulty_shape, List};
+use super::{bytes_of, faulty_shape, List};
 use crate::ordinary::plate::{LIFT, PARTS, PLACE, SHIFT, SLOTS, UNDO};
 use crate::ordinary::sheet::MOST_BYTES;
 use crate::random::Random;
@@ -80,10 +80,8 @@ fn put_place(sheet: &mut Vec<u8>, slot: u8, part: u8, triangle: &List) {
     put_field(sheet, PLACE, &body_of(&[slot, part], triangle));
 }
 
-/// The numbers have their low byte first.
 fn body_of(about: &[u8], numbers: &[i32]) -> Vec<u8> {
-    let numbers = numbers.iter().flat_map(|number| number.to_le_bytes());
-    about.iter().copied().chain(numbers).collect()
+    [about, &bytes_of(numbers)].concat()
 }
 
 /// The tags are the numbers of the plate's calls.
