@@ -125,8 +125,8 @@
 #define ZG_SIGN_PLUS 2
 
 /*
- * Values of zg_flat, zg_segment and zg_pair, and results of zg_pair_bytes, which gives so much more than the number of a
- * refusal where it refuses.
+ * Values of zg_flat, zg_segment and zg_pair, and results of zg_pair_bytes. Where that refuses, its result is ZG_REFUSED_BASE
+ * plus the number of the refusal.
  */
 #define ZG_APART 0
 #define ZG_MEETING 1

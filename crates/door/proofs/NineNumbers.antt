@@ -11,10 +11,11 @@ use Rattle.kernel.specs.Meeting.{Judges}
 use Rattle.checks.specs.Answers.{Answer, served, refused, Check, fine, _then_}
 use Rattle.checks.specs.Grid.{lowestOff, allOn}
 use Rattle.checks.specs.Rules.{takes-flat, allOnGrid, pairChecks}
-use Rattle.checks.proofs.AnswerLaws.{never-fine}
 use Rattle.checks.proofs.GridLaws.{SomeOff, lowest-some}
-use Rattle.checks.proofs.CheckLaws.{OnGrid, GridCase, all, not-all, grid-case, long-fine, all-on-fine, not-all-refused, fine-ready}
+use Rattle.checks.proofs.CheckLaws.{OnGrid, GridCase, all, not-all, grid-case, long-fine, all-on-fine, not-all-refused}
+use Rattle.checks.specs.declared.answer.Refusal.{Refusal}
 use Rattle.predicate.specs.Rules.{VerdictRule}
+use Rattle.predicate.proofs.PairLaws.{refused-by-checks, found-fine, judged}
 use Rattle.telling.specs.Numbers.{verdictCode}
 use Rattle.door.specs.Doors.{VerdictTold}
 
@@ -41,9 +42,8 @@ module _ (first second : List ℤ) (nine : length first ≡ 9) (nine′ : length
   -- ---- from what the code finds to what is told
   refused-told : {side place : ℕ} → checks ≡ refused 1 side place → VerdictTold first second 101
   refused-told {side} {place} e =
-      let rule : VerdictRule takes-flat 3 3 3 first second (refused 1 side place) =
-      record { verdict = false; told = sym (ap (λ (c : Check). c then served false) e); right = λ g. absurd (never-fine g e) } in
-      record { told = refused 1 side place; right = rule; tells = refl }
+      let why : Refusal = record { number = 1; side = side; place = place } in
+      record { told = refused 1 side place; right = refused-by-checks takes-flat 3 3 3 first second (sym e) why refl; tells = refl }
 
   pub first-off : allOn first ≡ false → VerdictTold first second 101
   first-off e = refused-told (by-grid (not-all-refused 0 first e) refl)
@@ -51,15 +51,14 @@ module _ (first second : List ℤ) (nine : length first ≡ 9) (nine′ : length
   pub second-off : allOn first ≡ true → allOn second ≡ false → VerdictTold first second 101
   second-off e f = refused-told (by-grid (all-on-fine 0 first e) (not-all-refused 1 second f))
 
+  both-fine : allOn first ≡ true → allOn second ≡ true → fine ≡ checks
+  both-fine e f = sym (by-grid (all-on-fine 0 first e) (all-on-fine 1 second f))
+
   pub both-ready : allOn first ≡ true → allOn second ≡ true → Ready 9 first × Ready 9 second
-  both-ready e f = (fine-ready 0 first nine (all-on-fine 0 first e), fine-ready 1 second nine′ (all-on-fine 1 second f))
+  both-ready e f = found-fine takes-flat 3 3 3 first second (both-fine e f) refl
 
   pub both-on : allOn first ≡ true → allOn second ≡ true → (v : Bool) → Judges 3 3 3 first second v → VerdictTold first second (verdictCode v)
-  both-on e f v says =
-      let fine-both = by-grid (all-on-fine 0 first e) (all-on-fine 1 second f) in
-      let rule : VerdictRule takes-flat 3 3 3 first second (served v) =
-      record { verdict = v; told = sym (ap (λ (c : Check). c then served v) fine-both); right = λ g. says } in
-      record { told = served v; right = rule; tells = refl }
+  both-on e f v says = record { told = served v; right = judged takes-flat 3 3 3 first second (both-fine e f) v refl refl says; tells = refl }
 
   -- ---- from what is told to what is so
   pub data Found (told : Answer Bool) : Type 0 where
