@@ -88,10 +88,17 @@ pub before-read : (c : ℕ) (first second : List ℤ) → Fits (getD first (c + 
 before-read c first second = read-same ltZ (getD first (c + 3) (pos 0)) (getD second c (pos 0))
 
 -- ---- the order of ℤ
-lt-true : {x y : ℤ} → ltZ x y ≡ true → x <ℤ y
+pub lt-true : {x y : ℤ} → ltZ x y ≡ true → x <ℤ y
 lt-true e = ltZ-yes (subst T (sym e) tt)
 
-lt-false : {x y : ℤ} → ltZ x y ≡ false → y ≤ℤ x
+pub lt-test : {x y : ℤ} → x <ℤ y → ltZ x y ≡ true
+lt-test {x} {y} h = by-test (ltZ x y) (h .lt)
+  where
+    by-test : (t : Bool) → T t → t ≡ true
+    by-test true h = refl
+    by-test false h = absurd h
+
+pub lt-false : {x y : ℤ} → ltZ x y ≡ false → y ≤ℤ x
 lt-false e = ltZ-no (subst T (sym (ap not e)) tt)
 
 -- The least is at most each of the three, and the greatest at least.
@@ -128,7 +135,7 @@ every-corner F c l h f = (
   (subst F (sym (at-corner 3 c 3 (c + 3) l h refl)) (f .1), (subst F (sym (at-corner 3 c 6 (c + 6) l h refl)) (f .2), tt)),
 )
 
-apart-at : (c : ℕ) → c < 3 → (P Q : List ℤ) → ltZ (bestAt larger c P) (bestAt smaller c Q) ≡ true →
+pub apart-at : (c : ℕ) → c < 3 → (P Q : List ℤ) → ltZ (bestAt larger c P) (bestAt smaller c Q) ≡ true →
     Share 3 (pointsAt 3 3 0 P) (pointsAt 3 3 0 Q) → ⊥
 apart-at c h P Q e =
     let g = bestAt larger c P in

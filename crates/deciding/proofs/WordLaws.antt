@@ -1,65 +1,127 @@
--- Words of verdicts (specs/Words.antt): the bits of a word that is built from its highest verdict down, and words that are stored one after the
--- other. Assumes nothing.
-use mathlib.Core.Path.{_≡_, refl, ap, ap₂, _∙_}
+-- Words of verdicts (specs/Words.antt): a word that is decided candidate by candidate, and words that are stored one after the other. Assumes
+-- nothing.
+use mathlib.Core.Path.{_≡_, refl, sym, ap, ap₂, _∙_}
 use mathlib.Core.Bool.{Bool, true, false}
 use mathlib.Core.List.{List}
-use Prim.Native.Nat.{ℕ, zero, suc, _+_, _*_, _/_, _%_, _^_, _<_, _≤_}
+use Prim.Native.Nat.{ℕ, zero, suc, _+_, _-_, _*_, _/_, _^_, _<_, _≤_}
 use native.Mathlib.Omega.{arith}
+use native.Mathlib.Decide.{ℕ-discrete}
+use native.Mathlib.Nat.{pow-le-pow-right}
 use borrow.Author.Count.{below-more}
-use lib.Dec.{eqb}
 use lib.IntN.{ℤ}
 use lib.ListN.{length, getD, set}
+use lib.Pow.{pow-pos}
 use lib.Seq.{getD-set-same, getD-set-other}
 use mir.Val.{boolByte}
+use Rattle.shape.proofs.VerdictLaws.{says-no}
 use Rattle.kernel.specs.Meeting.{Judges}
+use Rattle.words.specs.Bits.{bit, ones, Lowest}
+use Rattle.words.specs.Spans.{firstOf, span}
+use Rattle.words.proofs.BitLaws.{bit-of-none, ones-of-none, bit-added, bit-added-other, ones-added, added-small, few-ones}
+use Rattle.words.proofs.LowestLaws.{lowest-is-set, lowest-is-gone, others-stay, lowest-added, rest-less, lowest-within}
+use Rattle.boxes.specs.Boxes.{boxOf, six}
 use Rattle.boxes.specs.Triangles.{triangles, nine}
-use Rattle.deciding.specs.Words.{bit, ones, Verdicts, firstOf, span, onesBelow, VerdictsBelow}
+use Rattle.sifting.specs.Tables.{Candidates}
+use Rattle.sifting.proofs.EndLaws.{boxes-reach}
+use Rattle.deciding.specs.Words.{Verdicts, onesBelow, VerdictsBelow, Decided}
 
--- ---- a word with one more verdict, below those that it had
-halves : (word : ℕ) (v : Bool) → (2 * word + boolByte v) / 2 ≡ word
-halves word true = omega arith
-halves word false = omega arith
+-- ---- a word with one verdict more, where it had none
+-- Its place in the word was 0, and becomes 1 where the verdict is yes.
+abbrev put : ℕ → ℕ → Bool → ℕ
+put z word v = word + boolByte v * 2 ^ z
 
-rests : (word : ℕ) (v : Bool) → (2 * word + boolByte v) % 2 ≡ boolByte v
-rests word true = omega arith
-rests word false = omega arith
+module _ (z word : ℕ) (none : bit z word ≡ false) where
+  put-same : (word + 0 * 2 ^ z ≡ word) × (word + 1 * 2 ^ z ≡ word + 2 ^ z)
+  put-same = (omega arith, omega arith)
 
-lowest-bit : (word : ℕ) (v : Bool) → bit 0 (2 * word + boolByte v) ≡ v
-lowest-bit word v = ap (λ (r : ℕ). eqb r 1) (rests word v) ∙ of-one v
+  put-here : (v : Bool) → bit z (put z word v) ≡ v
+  put-here true = rw (put-same .1) (bit-added z word none)
+  put-here false = rw (put-same .0) none
+
+  put-other : (v : Bool) (t : ℕ) → (t ≡ z → ⊥) → bit t (put z word v) ≡ bit t word
+  put-other true t other = rw (put-same .1) (bit-added-other t z word other none)
+  put-other false t other = rw (put-same .0)
+
+  put-ones : (v : Bool) (n : ℕ) → z < n → ones n (put z word v) ≡ ones n word + boolByte v
+  put-ones true n h = rw (put-same .1) (ones-added n z word h none)
+  put-ones false n h = rw (put-same .0) (omega arith)
+
+  put-small : (v : Bool) (n : ℕ) → z < n → word < 2 ^ n → put z word v < 2 ^ n
+  put-small true n h small = rw (put-same .1) (added-small n z word small h none)
+  put-small false n h small = rw (put-same .0) small
+
+-- ---- a word that is decided, candidate by candidate
+-- The candidates in `left` have no verdict yet; every other triangle has its own.
+pub record Deciding (corners second : List ℤ) (from n left bits found : ℕ) : Type 0 where
+  pub few : left < 2 ^ n
+  pub small : bits < 2 ^ n
+  pub open-yet : (t : ℕ) → bit t left ≡ true → bit t bits ≡ false
+  pub right : (t : ℕ) → t < n → bit t left ≡ false → Judges 3 3 3 corners (nine (from + t) second) (bit t bits)
+  pub count : found ≡ ones n bits
+
+-- At first none has one, and the others are apart from the triangle.
+pub deciding-starts : (corners second bounds boxes : List ℤ) (from n candidates : ℕ) → Candidates bounds boxes from n candidates → bounds ≡ boxOf corners →
+    ((t : ℕ) → t < n → six (from + t) boxes ≡ boxOf (nine (from + t) second)) → Deciding corners second from n candidates 0 0
+deciding-starts corners second bounds boxes from n candidates sifted box other = record {
+  few = sifted .small;
+  small = pow-pos n;
+  open-yet = λ t set. bit-of-none t;
+  right = apart;
+  count = sym (ones-of-none n);
+}
   where
-    of-one : (v : Bool) → eqb (boolByte v) 1 ≡ v
-    of-one true = refl
-    of-one false = refl
+    apart : (t : ℕ) → t < n → bit t candidates ≡ false → Judges 3 3 3 corners (nine (from + t) second) (bit t 0)
+    apart t h clear =
+        rw (bit-of-none t)
+        (says-no
+        (λ shared. let set = sifted .set t h (rw (box, other t h) (boxes-reach corners (nine (from + t) second) shared)) in
+        let same : _≡_ {A = ℕ} 0 1 = cc in
+        omega arith))
 
-higher-bit : (t word : ℕ) (v : Bool) → bit (suc t) (2 * word + boolByte v) ≡ bit t word
-higher-bit t word v = ap (bit t) (halves word v)
-
-pub ones-more : (n word : ℕ) (v : Bool) → ones (suc n) (2 * word + boolByte v) ≡ boolByte v + ones n word
-ones-more n word v = ap₂ (λ r h. r + ones n h) (rests word v) (halves word v)
-
-pub one-more-small : (n word : ℕ) (v : Bool) → word < 2 ^ n → 2 * word + boolByte v < 2 ^ suc n
-one-more-small n word true small = omega arith
-one-more-small n word false small = omega arith
-
-pub few-ones : (n word : ℕ) → ones n word ≤ n
-few-ones zero word = omega arith
-few-ones (suc n) word = omega (arith, few-ones n (word / 2))
-
--- So the verdicts of a word come one by one, the last triangle's first.
-pub no-verdicts : (corners second : List ℤ) (from : ℕ) → Verdicts corners second from 0 0
-no-verdicts corners second from = record { small = omega arith; right = λ t h. absurd (omega arith) }
-
-pub one-more-verdict : {corners second : List ℤ} {from n word : ℕ} {v : Bool} → Verdicts corners second (suc from) n word →
-    Judges 3 3 3 corners (nine from second) v → Verdicts corners second from (suc n) (2 * word + boolByte v)
-one-more-verdict {corners} {second} {from} {n} {word} {v} later first = record { small = one-more-small n word v (later .small); right = each }
+-- The lowest candidate gets its verdict. The code has its power of two as a difference.
+pub deciding-on : {corners second : List ℤ} {from n left next bits found z : ℕ} {v : Bool} → Deciding corners second from n left bits found →
+    Lowest z left next → Judges 3 3 3 corners (nine (from + z) second) v →
+    Deciding corners second from n next (bits + boolByte v * (left - next)) (found + boolByte v)
+deciding-on {corners} {second} {from} {n} {left} {next} {bits} {found} {z} {v} so-far low verdict = rw power (record {
+  few = omega (arith, rest-less low, so-far .few);
+  small = put-small z bits none v n inside (so-far .small);
+  open-yet = open-yet;
+  right = right;
+  count = ap (λ (k : ℕ). k + boolByte v) (so-far .count) ∙ sym (put-ones z bits none v n inside);
+})
   where
-    each : (t : ℕ) → t < suc n → Judges 3 3 3 corners (nine (from + t) second) (bit t (2 * word + boolByte v))
-    each zero h =
-        let start : from + 0 ≡ from = omega arith in
-        rw (start, lowest-bit word v) first
-    each (suc t) h =
-        let next : from + suc t ≡ suc from + t = omega arith in
-        rw (next, higher-bit t word v) (later .right t (omega arith))
+    power : left - next ≡ 2 ^ z
+    power = omega (arith, lowest-added low)
+
+    inside : z < n
+    inside = lowest-within low n (so-far .few)
+
+    none : bit z bits ≡ false
+    none = so-far .open-yet z (lowest-is-set low)
+
+    open-yet : (t : ℕ) → bit t next ≡ true → bit t (put z bits v) ≡ false
+    open-yet t set =
+        let other : (t ≡ z → ⊥) = λ e. let gone : bit t next ≡ false = rw e (lowest-is-gone low) in let same : _≡_ {A = ℕ} 0 1 = cc in omega arith in
+        put-other z bits none v t other ∙ so-far .open-yet t (sym (others-stay low t other) ∙ set)
+
+    right : (t : ℕ) → t < n → bit t next ≡ false → Judges 3 3 3 corners (nine (from + t) second) (bit t (put z bits v))
+    right t h clear = by-place (ℕ-discrete t z)
+      where
+        by-place : Dec (t ≡ z) → Judges 3 3 3 corners (nine (from + t) second) (bit t (put z bits v))
+        by-place (yes e) = rw (e, put-here z bits none v) verdict
+        by-place (no other) = rw (put-other z bits none v t other) (so-far .right t h (sym (others-stay low t other) ∙ clear))
+
+-- Word and count fit the code's 64 bits.
+pub deciding-fits : {corners second : List ℤ} {from n left bits found : ℕ} → n ≤ 64 → Deciding corners second from n left bits found →
+    (bits < 2 ^ 64) × (found ≤ 64)
+deciding-fits {n} {bits} few so-far =
+    let most : 2 ^ n ≤ 2 ^ 64 = pow-le-pow-right {n = 2} (omega arith) {i = n} {j = 64} few in
+    (omega (arith, most, so-far .small), omega (arith, so-far .count, few-ones n bits))
+
+-- No candidate is left.
+pub deciding-ends : {corners second : List ℤ} {from n bits found : ℕ} → Deciding corners second from n 0 bits found →
+    Verdicts corners second from n bits × (found ≡ ones n bits)
+deciding-ends so-far = (record { small = so-far .small; right = λ t h. so-far .right t h (bit-of-none t) }, so-far .count)
 
 -- ---- words that are stored one after the other
 -- Word k is stored: the words before it are as they were.
@@ -67,7 +129,7 @@ module _ (m : ℕ) (words : List ℕ) (k word : ℕ) where
   before-stored : (n : ℕ) → n < k → getD (set words k word) n 0 ≡ getD words n 0
   before-stored n h = getD-set-other words k n word 0 (λ e. omega arith)
 
-  pub verdicts-stored : (a b : List ℤ) → k < length words → VerdictsBelow a b words k →
+  verdicts-stored : (a b : List ℤ) → k < length words → VerdictsBelow a b words k →
       Verdicts (nine (k / 16) a) b (firstOf k) (span (triangles b) (firstOf k)) word → VerdictsBelow a b (set words k word) (k + 1)
   verdicts-stored a b inside earlier this = below-more Kept k (λ n h. rw (before-stored n h) (earlier n h)) (rw (getD-set-same words k word 0 inside) this)
     where
@@ -79,10 +141,19 @@ module _ (m : ℕ) (words : List ℕ) (k word : ℕ) where
   ones-before (suc n) h =
       ap₂ _+_ (ones-before n (omega arith)) (ap (ones (span m (firstOf n))) (before-stored n h))
 
-  pub ones-stored : k < length words → onesBelow m (set words k word) (k + 1) ≡ onesBelow m words k + ones (span m (firstOf k)) word
+  ones-stored : k < length words → onesBelow m (set words k word) (k + 1) ≡ onesBelow m words k + ones (span m (firstOf k)) word
   ones-stored inside =
       ap (onesBelow m (set words k word)) {x = k + 1} {y = suc k} (omega arith)
       ∙ ap₂ _+_ (ones-before k (omega arith)) (ap (ones (span m (firstOf k))) (getD-set-same words k word 0 inside))
+
+-- So one word more is decided.
+pub decided-on : {a b : List ℤ} {words : List ℕ} {k found word more : ℕ} → k < length words → Decided a b words k found →
+    Verdicts (nine (k / 16) a) b (firstOf k) (span (triangles b) (firstOf k)) word → more ≡ ones (span (triangles b) (firstOf k)) word →
+    Decided a b (set words k word) (k + 1) (found + more)
+decided-on {a} {b} {words} {k} {found} {word} {more} inside so-far this count = record {
+  right = verdicts-stored (triangles b) words k word a b inside (so-far .right) this;
+  count = ap₂ _+_ (so-far .count) count ∙ sym (ones-stored (triangles b) words k word inside);
+}
 
 -- There are at most 64 in each.
 pub few-below : (m : ℕ) (words : List ℕ) (k : ℕ) → onesBelow m words k ≤ 64 * k

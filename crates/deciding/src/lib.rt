@@ -3,4 +3,3 @@
 mod deciding;
 
 pub use deciding::decide_lists;
-pub use deciding::span_of;

@@ -1,12 +1,12 @@
--- A buffer that is filled from the front, some numbers at a time, each time by way of the part that is still free. One set of laws for the
--- bits of a word and for the words. Assumes nothing.
+-- A buffer that is filled from the front, some numbers at a time: stored one by one, as those of a pair are, or by way of the part that is still
+-- free, as those of a word are. Assumes nothing.
 use mathlib.Core.Path.{_≡_, refl, sym, ap, _∙_}
 use mathlib.Core.List.{List, [], _++_, append-assoc, append-nil}
 use Prim.Native.Nat.{ℕ, _+_, _-_, _≤_}
 use native.Mathlib.Omega.{arith}
 use borrow.Rule.Slice.PartMut.{putMid}
 use lib.ListN.{length, take, drop, length-append, length-drop, take-append-drop, drop-of-length-le}
-use lib.Seq.{take-all, take-at, drop-at, drop-drop, length-take-le}
+use lib.Seq.{take-all, take-at, drop-at, drop-drop, length-take-le, sets, sets-eq}
 use Rattle.listing.specs.Writing.{Wrote}
 
 -- Of all the numbers that are to be written, those before `at` stand in the buffer, and the rest is still to come.
@@ -53,16 +53,10 @@ module _ {all before out : List ℕ} {at : ℕ} (numbers rest : List ℕ) (f : F
       let total = ap length (f .begun) ∙ length-append (take at out) (numbers ++ rest) in
       omega (arith, total, length-append numbers rest, begun-length, f .same, fits)
 
-  pub filled-on : {count : ℕ} {new : List ℕ} → Wrote numbers (free-part at out) count new →
-      Filling all before rest (putMid at (length out - at) out new) (at + count)
-  filled-on {count} {new} w = rw (w .many) (record { inside = inside; same = same; begun = begun; free = free })
+  -- They stand after those that were written before, and all after them stays.
+  filled-by : {after : List ℕ} → after ≡ (take at out ++ numbers) ++ drop (at + length numbers) out → Filling all before rest after (at + length numbers)
+  filled-by {after} is = record { inside = inside; same = same-out ∙ f .same; begun = begun; free = free }
     where
-      after : List ℕ
-      after = putMid at (length out - at) out new
-
-      is : after ≡ (take at out ++ numbers) ++ drop (at + length numbers) out
-      is = put-back at out w
-
       front : length (take at out ++ numbers) ≡ at + length numbers
       front = length-append (take at out) numbers ∙ ap (λ (n : ℕ). n + length numbers) begun-length
 
@@ -70,9 +64,6 @@ module _ {all before out : List ℕ} {at : ℕ} (numbers rest : List ℕ) (f : F
       same-out =
           let total = ap length is ∙ length-append (take at out ++ numbers) (drop (at + length numbers) out) in
           omega (arith, total, front, length-drop (at + length numbers) out, room-for-more, f .inside)
-
-      same : length after ≡ length before
-      same = same-out ∙ f .same
 
       inside : at + length numbers ≤ length after
       inside = omega (arith, same-out, room-for-more, f .inside)
@@ -90,6 +81,15 @@ module _ {all before out : List ℕ} {at : ℕ} (numbers rest : List ℕ) (f : F
           ∙ sym (drop-drop (length numbers) at out)
           ∙ ap (drop (length numbers)) (f .free)
           ∙ drop-drop (length numbers) at before
+
+  -- They were written to the free part,
+  pub filled-on : {count : ℕ} {new : List ℕ} → Wrote numbers (free-part at out) count new →
+      Filling all before rest (putMid at (length out - at) out new) (at + count)
+  filled-on w = rw (w .many) (filled-by (put-back at out w))
+
+  -- or stored one by one.
+  pub filled-one-by-one : Filling all before rest (sets out at numbers) (at + length numbers)
+  filled-one-by-one = filled-by (sets-eq numbers out at (omega (arith, room-for-more, f .inside)))
 
 -- Nothing is left to come: all were written.
 pub filling-ends : {all before out : List ℕ} {at : ℕ} → Filling all before [] out at → Wrote all before at out

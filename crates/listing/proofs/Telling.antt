@@ -2,8 +2,8 @@
 -- Assumes nothing.
 use mathlib.Core.Path.{_≡_, refl, sym, ap, ap₂, _∙_}
 use mathlib.Core.Bool.{Bool, true, false}
-use mathlib.Core.List.{List, [], _++_}
-use Prim.Native.Nat.{ℕ, zero, suc, _+_, _-_, _*_, _/_, _%_, _^_, _<_, _≤_, min}
+use mathlib.Core.List.{List, [], _∷_, _++_}
+use Prim.Native.Nat.{ℕ, zero, suc, _+_, _-_, _*_, _/_, _%_, _<_, _≤_, min}
 use native.Mathlib.Omega.{arith}
 use borrow.Author.Tests.{eqb-true, eqb-false, ltb-true, ltb-false}
 use lib.Dec.{eqb, ltb}
@@ -11,15 +11,23 @@ use lib.IntN.{ℤ}
 use lib.ListN.{length, length-append, getD}
 use Rattle.kernel.specs.Meeting.{Judges}
 use Rattle.boxes.specs.Triangles.{triangles, nine}
-use Rattle.deciding.specs.Words.{bit, ones, firstOf, span, onesBelow, VerdictsBelow}
+use Rattle.words.specs.Bits.{bit, ones, Lowest, lowest-here, lowest-above}
+use Rattle.words.specs.Spans.{firstOf, span}
+use Rattle.deciding.specs.Words.{onesBelow, VerdictsBelow}
 use Rattle.listing.specs.Pairs.{Pair, gathered, pairIf, pairsOf}
 use Rattle.listing.specs.Writing.{wordPairs, toldBy}
 use Rattle.listing.proofs.Gathering.{gathered-same, gathered-split, gathered-last, gathered-blocks}
 
 -- ---- the pairs of one word
--- Its higher bits are a word of one bit fewer.
-pub half-small : (n word : ℕ) → word < 2 ^ suc n → word / 2 < 2 ^ n
-half-small n word small = omega arith
+-- The first is that of the lowest bit that is set, and the word without that bit tells the others.
+pub next-pair : {z word rest : ℕ} → Lowest z word rest → (i from n : ℕ) → z < n → wordPairs i from n word ≡ (i, from + z) ∷ wordPairs i from n rest
+next-pair low i from zero h = absurd (omega arith)
+next-pair (lowest-here set gone same) i from (suc n) h =
+    let start : from + 0 ≡ from = omega arith in
+    rw (set, gone, same, start)
+next-pair (lowest-above {z = z} none gone low) i from (suc n) h =
+    let next : from + suc z ≡ suc from + z = omega arith in
+    rw (none, gone, next) (next-pair low i (suc from) n (omega arith))
 
 -- A word of 0 tells none.
 pub no-more : (i from n : ℕ) → wordPairs i from n 0 ≡ []

@@ -4,7 +4,8 @@ use mathlib.Core.List.{List, [], _++_}
 use Prim.Native.Nat.{ℕ, zero, suc, _-_, _/_, _^_, _<_}
 use lib.ListN.{length, getD, drop}
 use Rattle.checks.specs.Answers.{Answer, served, _then_, withServed}
-use Rattle.deciding.specs.Words.{bit, firstOf, span}
+use Rattle.words.specs.Bits.{bit}
+use Rattle.words.specs.Spans.{firstOf, span}
 use Rattle.listing.specs.Pairs.{Pair, gathered, pairIf}
 use Rattle.listing.specs.Rules.{roomFor, afterwards}
 

@@ -1,102 +1,103 @@
--- `deciding::deciding::decide_word` meets its contract: the verdicts from t on are kept, and the one before them becomes the lowest. Assumes nothing.
-use mathlib.Core.Path.{_≡_, ap, _∙_}
-use mathlib.Core.Bool.{Bool, true, false}
+-- `deciding::deciding::decide_word` meets its contract: each turn decides the lowest candidate. Assumes nothing.
+use mathlib.Core.Path.{_≡_, subst}
 use Prim.Native.Nat.{ℕ, suc, _+_, _-_, _*_, _^_, _<_, _≤_}
 use native.Mathlib.Omega.{arith}
-use native.Mathlib.Nat.{pow-le-pow-right}
+use Rattle.words.specs.Spans.{span}
+use Rattle.words.proofs.LowestLaws.{lowest-found, lowest-within, rest-less}
+use Rattle.boxes.specs.Triangles.{triangles}
+use Rattle.deciding.proofs.WordLaws.{Deciding, deciding-starts, deciding-on, deciding-fits, deciding-ends}
 use borrow.Author.Needs.{needs}
-use mir.Val.{boolByte}
-use Rattle.deciding.specs.Words.{Verdicts, ones}
-use Rattle.deciding.proofs.WordLaws.{no-verdicts, one-more-verdict, one-more-small, ones-more, few-ones}
 use Rattle.deciding.proofs.deciding.decide_word.Statement.{statement}
 use Rattle.deciding.proofs.deciding.decide_word.Tie as tie
 
--- one verdict more fits a word of 64 bits, and so does the count of those that are yes
-
-word-fits : (count t bits : ℕ) (v : Bool) → 0 < t → t ≤ count → count ≤ 64 → bits < 2 ^ (count - t) → 2 * bits + boolByte v < 2 ^ 64
-word-fits count t bits v h l few small =
-    let n : ℕ = suc (count - t) in
-    let most : 2 ^ n ≤ 2 ^ 64 = pow-le-pow-right {n = 2} (omega arith) {i = n} {j = 64} (omega arith) in
-    omega (arith, most, one-more-small (count - t) bits v small)
-
-one-at-most : (v : Bool) → boolByte v ≤ 1
-one-at-most true = omega arith
-one-at-most false = omega arith
-
 abbrev Inv-loop : tie.InvT-loop
-Inv-loop corners bounds plane second boxes normals from count bits₀ found₀ t₀ bits found t =
-    (t ≤ count) × Verdicts corners second (from + t) (count - t) bits × (found ≡ ones (count - t) bits)
+Inv-loop corners bounds plane second boxes normals from candidates bits₀ found₀ left₀ bits found left =
+    Deciding corners second from (span (triangles second) from) left bits found
 
 abbrev μ-loop : tie.MeasureT-loop
-μ-loop corners bounds plane second boxes normals from count bits₀ found₀ t₀ bits found t = t
+μ-loop corners bounds plane second boxes normals from candidates bits₀ found₀ left₀ bits found left = left
 
 loop-holds : tie.Need-loop-holds Inv-loop μ-loop
 loop-holds c =
-    let count = c .args .count in
-    let none : count - count ≡ 0 = omega arith in
-    (omega arith, rw none (no-verdicts (c .args .corners .now) (c .args .second .now) (c .args .from + count)), rw none)
+    let a = c .args in
+    deciding-starts (a .corners .now) (a .second .now) (a .bounds .now) (a .boxes .now) (a .from) (span (triangles (a .second .now)) (a .from)) (a .candidates)
+    (c .pre .2) (c .pre .0 .boxed) (λ t h. c .pre .1 .boxed (a .from + t) (omega (arith, h)))
 
-sub-t : tie.Need-sub-t Inv-loop μ-loop
-sub-t c = search needs
+without-lowest-requires : tie.Need-without-lowest-requires Inv-loop μ-loop
+without-lowest-requires c κs = search needs
 
-add-pair-meets : tie.Need-add-pair-meets Inv-loop μ-loop
-add-pair-meets c =
-    let p = c .before .before in
-    let t = c .before .loop .t in
-    omega (arith, p .pre .3 (t - 1) (omega (arith, c .loop-test .taken, c .before .loop .inv .0)), p .pre .1 .sound .few)
+lowest-of-requires : tie.Need-lowest-of-requires Inv-loop μ-loop
+lowest-of-requires c κs = search needs
+
+cast-j : tie.Need-cast-j Inv-loop μ-loop
+cast-j c = search needs
+
+add-j : tie.Need-add-j Inv-loop μ-loop
+add-j c =
+    let l = c .before .before .before .loop in
+    let p = c .before .before .before .before in
+    let low = lowest-found (c .lowest-of .ensures .0) (c .before .without-lowest .ensures) in
+    let inside = lowest-within low (span (triangles (p .args .second .now)) (p .args .from)) (l .inv .few) in
+    omega (arith, inside, p .pre .1 .sound .few)
 
 pair-meets-requires : tie.Need-pair-meets-requires Inv-loop μ-loop
 pair-meets-requires c κs =
-    let p = c .before .before in
-    let t = c .before .loop .t in
-    (p .pre .0, p .pre .1, p .pre .3 (t - 1) (omega (arith, c .loop-test .taken, c .before .loop .inv .0)))
+    let l = c .before .before .before .loop in
+    let p = c .before .before .before .before in
+    let low = lowest-found (c .lowest-of .ensures .0) (c .before .without-lowest .ensures) in
+    let inside = lowest-within low (span (triangles (p .args .second .now)) (p .args .from)) (l .inv .few) in
+    (p .pre .0, p .pre .1, omega (arith, inside))
 
 cast-meet : tie.Need-cast-meet Inv-loop μ-loop
 cast-meet c = search needs
 
+sub-bits : tie.Need-sub-bits Inv-loop μ-loop
+sub-bits c =
+    let l = c .before .before .before .before .loop in
+    let q = c .before .before in
+    let low = lowest-found (c .before .lowest-of .ensures .0) (q .without-lowest .ensures) in
+    omega (arith, rest-less low)
+
 mul-bits : tie.Need-mul-bits Inv-loop μ-loop
 mul-bits c =
-    let l = c .before .before .loop in
-    let p = c .before .before .before in
-    omega (arith, word-fits (p .args .count) (l .t) (l .bits) false (c .before .loop-test .taken) (l .inv .0) (p .pre .2) (l .inv .1 .small))
+    let l = c .before .before .before .before .loop in
+    let q = c .before .before in
+    let low = lowest-found (c .before .lowest-of .ensures .0) (q .without-lowest .ensures) in
+    omega (arith, deciding-fits (omega arith) (deciding-on (l .inv) low (c .pair-meets .ensures)) .0)
 
 add-bits : tie.Need-add-bits Inv-loop μ-loop
 add-bits c =
-    let l = c .before .before .loop in
-    let p = c .before .before .before in
-    omega (arith, word-fits (p .args .count) (l .t) (l .bits) (c .pair-meets .result) (c .before .loop-test .taken) (l .inv .0) (p .pre .2) (l .inv .1 .small))
+    let l = c .before .before .before .before .loop in
+    let q = c .before .before in
+    let low = lowest-found (c .before .lowest-of .ensures .0) (q .without-lowest .ensures) in
+    omega (arith, deciding-fits (omega arith) (deciding-on (l .inv) low (c .pair-meets .ensures)) .0)
 
 add-found : tie.Need-add-found Inv-loop μ-loop
 add-found c =
-    let l = c .before .before .loop in
-    let p = c .before .before .before in
-    omega (arith, l .inv .2, few-ones (p .args .count - l .t) (l .bits), p .pre .2, one-at-most (c .pair-meets .result))
+    let l = c .before .before .before .before .loop in
+    let q = c .before .before in
+    let low = lowest-found (c .before .lowest-of .ensures .0) (q .without-lowest .ensures) in
+    omega (arith, deciding-fits (omega arith) (deciding-on (l .inv) low (c .pair-meets .ensures)) .1)
 
 loop-less : tie.Need-loop-less Inv-loop μ-loop
-loop-less c = search needs
+loop-less c =
+    let l = c .before .before .before .before .loop in
+    let q = c .before .before in
+    let low = lowest-found (c .before .lowest-of .ensures .0) (q .without-lowest .ensures) in
+    rest-less low
 
 loop-again : tie.Need-loop-again Inv-loop μ-loop
 loop-again c =
-    let l = c .before .before .loop in
-    let a = c .before .before .before .args in
-    let t = l .t in
-    let taken : 0 < t = c .before .loop-test .taken in
-    let more : a .count - (t - 1) ≡ suc (a .count - t) = omega (arith, taken, l .inv .0) in
-    let next : suc (a .from + (t - 1)) ≡ a .from + t = omega (arith, taken) in
-    let later : Verdicts (a .corners .now) (a .second .now) (suc (a .from + (t - 1))) (a .count - t) (l .bits) = rw next (l .inv .1) in (
-      omega (arith, l .inv .0),
-      rw more (one-more-verdict later (c .pair-meets .ensures)),
-      rw more (omega (arith, l .inv .2, ones-more (a .count - t) (l .bits) (c .pair-meets .result))),
-    )
+    let l = c .before .before .before .before .loop in
+    let q = c .before .before in
+    let low = lowest-found (c .before .lowest-of .ensures .0) (q .without-lowest .ensures) in
+    deciding-on (l .inv) low (c .pair-meets .ensures)
 
 returns : tie.Need-returns Inv-loop μ-loop
 returns c =
     let l = c .before .loop in
     let a = c .before .before .args in
-    let end : l .t ≡ 0 = omega (arith, c .loop-test .left) in
-    let start : a .from + l .t ≡ a .from = omega (arith, end) in
-    let all : a .count - l .t ≡ a .count = omega (arith, end) in
-    (rw (← start, ← all) (l .inv .1), l .inv .2 ∙ ap (λ (n : ℕ). ones n (l .bits)) all)
+    deciding-ends (subst (λ (k : ℕ). Deciding (a .corners .now) (a .second .now) (a .from) (span (triangles (a .second .now)) (a .from)) k (l .bits) (l .found)) (c .loop-test .left) (l .inv))
 
 pub decide-word-spec : {M : Type 1} → statement M
 decide-word-spec =
@@ -105,10 +106,13 @@ decide-word-spec =
     Inv-loop
     μ-loop
     loop-holds
-    sub-t
-    add-pair-meets
+    without-lowest-requires
+    lowest-of-requires
+    cast-j
+    add-j
     pair-meets-requires
     cast-meet
+    sub-bits
     mul-bits
     add-bits
     add-found

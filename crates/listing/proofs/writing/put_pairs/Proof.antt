@@ -5,7 +5,7 @@ use Prim.Native.Nat.{ℕ, suc, _+_, _-_, _*_, _/_, _^_, _<_, _≤_}
 use native.Mathlib.Omega.{arith}
 use borrow.Author.Needs.{needs}
 use lib.ListN.{length, getD}
-use Rattle.deciding.specs.Words.{firstOf}
+use Rattle.words.specs.Spans.{firstOf}
 use Rattle.listing.specs.Pairs.{gathered, twoEach}
 use Rattle.listing.specs.Writing.{wordPairs, toldBy, Wrote}
 use Rattle.listing.proofs.Filling.{Filling, filling-starts, free-part, length-free, room-for-more, filled-on, filling-ends}
@@ -93,7 +93,6 @@ put-word-requires c κs =
     let size = c .before .span-of .ensures in (
       subst (λ (n : ℕ). getD words (l .k) 0 < 2 ^ n) (sym size) (p .pre .3 (l .k) (q .loop-test .taken)),
       omega arith,
-      omega (arith, size),
       subst (λ (n : ℕ). length (twoEach (wordPairs (l .k / 16) (firstOf (l .k)) n (getD words (l .k) 0))) ≤ length (free-part (l .at) (l .out))) (sym size)
           (rw (length-free (l .at) (l .out)) (room-for-more (here (a .m) words (l .k)) (later (a .m) words (a .n * 16) (l .k)) f (p .pre .4))),
     )

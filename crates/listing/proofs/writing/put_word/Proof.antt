@@ -1,112 +1,90 @@
--- `listing::writing::put_word` meets its contract: each turn writes what the lowest bit tells and drops it. Assumes nothing.
-use mathlib.Core.Path.{_≡_, ap, subst, _∙_}
-use mathlib.Core.List.{List, _++_}
-use Prim.Native.Nat.{ℕ, zero, suc, _+_, _-_, _/_, _^_, _<_, _≤_}
+-- `listing::writing::put_word` meets its contract: each turn writes the pair of the lowest bit that is set and drops that bit. Assumes nothing.
+use mathlib.Core.Path.{ap, subst, _∙_}
+use mathlib.Core.List.{List, [], _∷_}
+use Prim.Native.Nat.{ℕ, _+_, _^_, _<_, _≤_}
+use native.Mathlib.Numerals.{add-one}
 use native.Mathlib.Omega.{arith}
 use borrow.Author.Needs.{needs}
-use Rattle.deciding.specs.Words.{bit}
-use Rattle.listing.specs.Pairs.{pairIf, twoEach}
+use lib.ListN.{length, set, length-set}
+use Rattle.words.specs.Bits.{Lowest}
+use Rattle.words.proofs.LowestLaws.{lowest-within, rest-less, lowest-found}
+use Rattle.listing.specs.Pairs.{twoEach}
 use Rattle.listing.specs.Writing.{wordPairs}
-use Rattle.listing.proofs.Filling.{Filling, filling-starts, length-free, room-for-more, filled-on, filling-ends}
-use Rattle.listing.proofs.Gathering.{two-each-append}
-use Rattle.listing.proofs.Telling.{half-small, no-more}
+use Rattle.listing.proofs.Filling.{Filling, filling-starts, room-for-more, filled-one-by-one, filling-ends}
+use Rattle.listing.proofs.Telling.{next-pair, no-more}
 use Rattle.listing.proofs.writing.put_word.Statement.{statement}
 use Rattle.listing.proofs.writing.put_word.Tie as tie
 
--- a word that is not 0 has a bit left
+-- what a word tells: the pair of its lowest bit that is set, and then what the word without that bit tells
 
-some-left : (r bits : ℕ) → (bits ≡ 0 → ⊥) → bits < 2 ^ r → 0 < r
-some-left zero bits some small = absurd (some (omega arith))
-some-left (suc r) bits some small = omega arith
+abbrev told : ℕ → ℕ → ℕ → ℕ → List ℕ
+told i from n word = twoEach (wordPairs i from n word)
 
--- what its lowest bit tells, and what the rest does
+module _ {all before out : List ℕ} {at z word rest : ℕ} (i from n : ℕ) (low : Lowest z word rest) (small : word < 2 ^ n)
+    (f : Filling all before (told i from n word) out at) (fits : length all ≤ length before) where
+  next : Filling all before (i ∷ (from + z) ∷ told i from n rest) out at
+  next = subst (λ (l : List ℕ). Filling all before l out at) (ap twoEach (next-pair low i from n (lowest-within low n small))) f
 
-abbrev here : ℕ → ℕ → ℕ → List ℕ
-here i j bits = twoEach (pairIf (bit 0 bits) i j)
+  room : at + 1 < length out
+  room = omega (arith, room-for-more (i ∷ (from + z) ∷ []) (told i from n rest) next fits, f .inside)
 
-abbrev later : ℕ → ℕ → ℕ → ℕ → List ℕ
-later i j r bits = twoEach (wordPairs i (j + 1) (r - 1) (bits / 2))
-
-next : (i j r bits : ℕ) {all before out : List ℕ} {at : ℕ} → 0 < r → Filling all before (twoEach (wordPairs i j r bits)) out at →
-    Filling all before (here i j bits ++ later i j r bits) out at
-next i j zero bits h f = absurd (omega arith)
-next i j (suc r) bits h f =
-    let one : j + 1 ≡ suc j = omega arith in
-    let fewer : suc r - 1 ≡ r = omega arith in
-    rw (one, fewer, ← (two-each-append (pairIf (bit 0 bits) i j) (wordPairs i (suc j) r (bits / 2)))) f
+  written : Filling all before (told i from n rest) (set (set out at i) (at + 1) (from + z)) (at + 2)
+  written = rw add-one (filled-one-by-one (i ∷ (from + z) ∷ []) (told i from n rest) next fits)
 
 abbrev Inv-loop : tie.InvT-loop
-Inv-loop out₀ i from n word bits₀ j₀ at₀ out bits j at =
-    (from ≤ j) × (j ≤ from + n) × (bits < 2 ^ (from + n - j))
-    × Filling (twoEach (wordPairs i from n word)) out₀ (twoEach (wordPairs i j (from + n - j) bits)) out at
+Inv-loop out₀ i from n word rest₀ at₀ out rest at =
+    (rest < 2 ^ n) × Filling (told i from n word) out₀ (told i from n rest) out at
 
 abbrev μ-loop : tie.MeasureT-loop
-μ-loop out₀ i from n word bits₀ j₀ at₀ out bits j at = bits
+μ-loop out₀ i from n word rest₀ at₀ out rest at = rest
 
 loop-holds : tie.Need-loop-holds Inv-loop μ-loop
 loop-holds c =
-    let p = c .before in
-    let a = p .args in
-    let all : a .from + a .n - a .from ≡ a .n = omega arith in
-    (omega arith, omega arith, rw all (p .pre .0), rw all (filling-starts (twoEach (wordPairs (a .i) (a .from) (a .n) (a .word))) (a .out .now)))
+    let a = c .before .args in
+    (c .before .pre .0, filling-starts (told (a .i) (a .from) (a .n) (a .word)) (a .out .now))
 
-mul-put-lowest : tie.Need-mul-put-lowest Inv-loop μ-loop
-mul-put-lowest c = search needs
-
-sub-put-lowest : tie.Need-sub-put-lowest Inv-loop μ-loop
-sub-put-lowest c = search needs
-
-part-put-lowest-start : tie.Need-part-put-lowest-start Inv-loop μ-loop
-part-put-lowest-start c = search needs
-
-part-put-lowest-end : tie.Need-part-put-lowest-end Inv-loop μ-loop
-part-put-lowest-end c = search needs
-
-put-lowest-requires : tie.Need-put-lowest-requires Inv-loop μ-loop
-put-lowest-requires c κs =
-    let l = c .before .before .loop in
-    let p = c .before .before .before .before in
-    let a = p .args in
-    let r = a .from + a .n - l .j in
-    let f = next (a .i) (l .j) r (l .bits) (some-left r (l .bits) (c .before .loop-test .taken) (l .inv .2)) (l .inv .3) in
-    rw (length-free (l .at) (l .out)) (room-for-more (here (a .i) (l .j) (l .bits)) (later (a .i) (l .j) r (l .bits)) f (p .pre .3))
-
-add-at : tie.Need-add-at Inv-loop μ-loop
-add-at c =
-    let l = c .before .before .before .before .before .loop in
-    let p = c .before .before .before .before .before .before .before in
-    let a = p .args in
-    let r = a .from + a .n - l .j in
-    let some = c .before .before .before .before .loop-test .taken in
-    let f = next (a .i) (l .j) r (l .bits) (some-left r (l .bits) some (l .inv .2)) (l .inv .3) in
-    omega (arith, room-for-more (here (a .i) (l .j) (l .bits)) (later (a .i) (l .j) r (l .bits)) f (p .pre .3), c .before .before .put-lowest .ensures .many, l .inv .3 .inside)
+lowest-of-requires : tie.Need-lowest-of-requires Inv-loop μ-loop
+lowest-of-requires c κs = search needs
 
 add-j : tie.Need-add-j Inv-loop μ-loop
-add-j c =
-    let l = c .before .before .before .before .before .loop in
-    let p = c .before .before .before .before .before .before .before in
-    omega (arith, l .inv .1, p .pre .1, p .pre .2)
+add-j c = search needs
+
+without-lowest-requires : tie.Need-without-lowest-requires Inv-loop μ-loop
+without-lowest-requires c κs = search needs
+
+slice-write-out-2 : tie.Need-slice-write-out-2 Inv-loop μ-loop
+slice-write-out-2 c =
+    let l = c .before .before .before .loop in
+    let p = c .before .before .before .before .before in
+    let a = p .args in
+    let low = lowest-found (c .before .lowest-of .ensures .0) (c .without-lowest .ensures) in
+    rw length-set (room (a .i) (a .from) (a .n) low (l .inv .0) (l .inv .1) (p .pre .2))
+
+mul-out : tie.Need-mul-out Inv-loop μ-loop
+mul-out c = search needs
+
+slice-write-out : tie.Need-slice-write-out Inv-loop μ-loop
+slice-write-out c = omega (arith, simp length-set at (slice-write-out-2 c))
+
+add-out : tie.Need-add-out Inv-loop μ-loop
+add-out c = search needs
+
+mul-out-2 : tie.Need-mul-out-2 Inv-loop μ-loop
+mul-out-2 c = search needs
+
+add-at : tie.Need-add-at Inv-loop μ-loop
+add-at c = search needs
 
 loop-less : tie.Need-loop-less Inv-loop μ-loop
-loop-less c =
-    let some = c .before .before .before .before .loop-test .taken in
-    omega (arith, some)
+loop-less c = rest-less (c .without-lowest .ensures)
 
 loop-again : tie.Need-loop-again Inv-loop μ-loop
 loop-again c =
-    let l = c .before .before .before .before .before .loop in
-    let p = c .before .before .before .before .before .before .before in
+    let l = c .before .before .before .loop in
+    let p = c .before .before .before .before .before in
     let a = p .args in
-    let r = a .from + a .n - l .j in
-    let left = some-left r (l .bits) (c .before .before .before .before .loop-test .taken) (l .inv .2) in
-    let f = next (a .i) (l .j) r (l .bits) left (l .inv .3) in
-    let fewer : a .from + a .n - (l .j + 1) ≡ r - 1 = omega arith in
-    let again : r ≡ suc (r - 1) = omega (arith, left) in (
-      omega (arith, l .inv .0),
-      omega (arith, left),
-      rw fewer (half-small (r - 1) (l .bits) (subst (λ (e : ℕ). l .bits < 2 ^ e) again (l .inv .2))),
-      rw fewer (filled-on (here (a .i) (l .j) (l .bits)) (later (a .i) (l .j) r (l .bits)) f (p .pre .3) (c .before .before .put-lowest .ensures)),
-    )
+    let low = lowest-found (c .before .lowest-of .ensures .0) (c .without-lowest .ensures) in
+    (omega (arith, rest-less low, l .inv .0), written (a .i) (a .from) (a .n) low (l .inv .0) (l .inv .1) (p .pre .2))
 
 same-length : tie.Need-same-length Inv-loop μ-loop
 same-length c = search needs
@@ -115,12 +93,9 @@ returns : tie.Need-returns Inv-loop μ-loop
 returns c =
     let l = c .before .loop in
     let a = c .before .before .before .args in
-    let r = a .from + a .n - l .j in
-    let all = twoEach (wordPairs (a .i) (a .from) (a .n) (a .word)) in
-    filling-ends
-    (subst (λ (rest : List ℕ). Filling all (a .out .now) rest (l .out) (l .at))
-    (ap twoEach (ap (wordPairs (a .i) (l .j) r) (c .loop-test .left) ∙ no-more (a .i) (l .j) r))
-    (l .inv .3))
+    let all = told (a .i) (a .from) (a .n) (a .word) in
+    let none = ap (wordPairs (a .i) (a .from) (a .n)) (c .loop-test .left) ∙ no-more (a .i) (a .from) (a .n) in
+    filling-ends (subst (λ (r : List ℕ). Filling all (a .out .now) r (l .out) (l .at)) (ap twoEach none) (l .inv .1))
 
 pub put-word-spec : {M : Type 1} → statement M
 put-word-spec =
@@ -129,13 +104,15 @@ put-word-spec =
     Inv-loop
     μ-loop
     loop-holds
-    mul-put-lowest
-    sub-put-lowest
-    part-put-lowest-start
-    part-put-lowest-end
-    put-lowest-requires
-    add-at
+    lowest-of-requires
     add-j
+    without-lowest-requires
+    mul-out
+    slice-write-out
+    add-out
+    mul-out-2
+    slice-write-out-2
+    add-at
     loop-less
     loop-again
     same-length
