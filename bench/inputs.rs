@@ -1,9 +1,11 @@
 //! The pairs, of two triangles or of a segment and a triangle: three kinds of each that are timed, each
 //! from a seed of its own, and faulty ones. The listings' inputs, in `lists`, are made of triangles of
-//! these kinds, and of surfaces; the plates' inputs, in `plates`, of calls about such triangles, and about
-//! closed shells; and the sheets' inputs, in `sheets`, of fields about such triangles.
+//! these kinds, of surfaces, of triangles whose boxes all overlap, and of triangles of all sizes; the
+//! plates' inputs, in `plates`, of calls about such triangles as the pairs have, and about closed shells;
+//! and the sheets' inputs, in `sheets`, of fields about such triangles.
 
 pub mod lists;
+mod overlapping;
 pub mod plates;
 pub mod sheets;
 mod surfaces;
@@ -71,14 +73,14 @@ fn box_pair<const N: usize>(random: &mut Random, low: i32, high: i32) -> Pair<N>
 /// Each shape has its corners near a point anywhere on the grid.
 fn small_pair<const N: usize>(random: &mut Random) -> Pair<N> {
     let mut pair = box_pair(random, -SMALL_HALF, SMALL_HALF);
-    spread(random, &mut pair.first);
-    spread(random, &mut pair.second);
+    spread(random, SMALL_HALF, &mut pair.first);
+    spread(random, SMALL_HALF, &mut pair.second);
     pair
 }
 
-/// Moves a small shape from the middle of the grid to anywhere on it.
-fn spread(random: &mut Random, list: &mut [i32]) {
-    let end = GRID - SMALL_HALF;
+/// Moves a shape, whose corners lie at most `half` from the middle of the grid, to anywhere on it.
+fn spread(random: &mut Random, half: i32, list: &mut [i32]) {
+    let end = GRID - half;
     let middle = [0; 3].map(|_| random.between(-end, end));
     for (place, number) in list.iter_mut().enumerate() {
         *number += middle[place % 3];

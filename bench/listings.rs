@@ -15,40 +15,50 @@ const UNWRITTEN: u32 = u32::MAX;
 const LONG: usize = 100;
 
 type Contender = fn(&[i32], &[i32], &mut [u32], usize) -> Answer;
+/// The two lists of a call.
+type Lists<'a> = [&'a [i32]; 2];
 
 /// The last line to print. It is an error where two answers or buffers differ, or where each goal has
 /// to be reached and one is not.
 pub fn compare_and_time(goals: bool) -> Result<String, String> {
     let inputs = lists::timed();
-    let counts: Vec<usize> = inputs.iter().map(agreed_count).collect::<Result<_, _>>()?;
+    let counts: Vec<Vec<usize>> = inputs.iter().map(agreed_counts).collect::<Result<_, _>>()?;
     for question in lists::faulty() {
         agreed_answer(&question)?;
     }
     let reached = inputs
         .iter()
         .zip(counts)
-        .filter(|(input, count)| timed_ratio(input, *count) <= input.goal)
+        .filter(|(input, counts)| timed_ratio(input, counts) <= input.goal)
         .count();
     last_line("listings", reached, inputs.len(), goals)
 }
 
 // ---- The comparison ----
 
-/// How many pairs of an input meet, if all contenders agree. They are also asked with a buffer that is
+/// How many pairs of each call of an input meet, if all contenders agree.
+fn agreed_counts(input: &Input) -> Result<Vec<usize>, String> {
+    let counts = input.calls().into_iter().map(agreed_count);
+    counts
+        .collect::<Result<_, _>>()
+        .map_err(|message: String| format!("{}: {message}", input.name))
+}
+
+/// How many pairs of a call meet, if all contenders agree. They are also asked with a buffer that is
 /// one number too short.
-fn agreed_count(input: &Input) -> Result<usize, String> {
+fn agreed_count(lists: Lists) -> Result<usize, String> {
     let asked = |start: usize, room: usize| {
-        let question = Question {
-            first: input.first.clone(),
-            second: input.second.clone(),
+        let [first, second] = lists.map(<[i32]>::to_vec);
+        agreed_answer(&Question {
+            first,
+            second,
             buffer_length: start + room,
             start,
-        };
-        agreed_answer(&question).map_err(|message| format!("{}: {message}", input.name))
+        })
     };
-    let answer = asked(3, 2 * all_pairs(input))?;
+    let answer = asked(3, 2 * pairs_of(lists))?;
     if answer.number != 0 {
-        return Err(format!("{}: refused, {answer:?}", input.name));
+        return Err(format!("refused, {answer:?}"));
     }
     let count = answer.value as usize;
     if count > 0 {
@@ -107,40 +117,58 @@ fn triangles(list: &[i32]) -> usize {
     list.len() / TRIANGLE_NUMBERS
 }
 
-fn all_pairs(input: &Input) -> usize {
-    triangles(&input.first) * triangles(&input.second)
+/// How many pairs the lists of a call have, meeting or not.
+fn pairs_of([first, second]: Lists) -> usize {
+    triangles(first) * triangles(second)
 }
 
 /// Times one input, prints its line and gives the door's ratio. The door is timed with room for just
 /// the pairs that are found and with room for every pair, in which no listing can be refused, and the
 /// slower counts: a caller does not know beforehand how many pairs there are.
-fn timed_ratio(input: &Input, count: usize) -> f64 {
-    let mut tight = vec![UNWRITTEN; 2 * count];
-    let mut ample = vec![UNWRITTEN; 2 * all_pairs(input)];
+fn timed_ratio(input: &Input, counts: &[usize]) -> f64 {
+    let calls = input.calls();
+    let tight: Vec<usize> = counts.iter().map(|count| 2 * count).collect();
+    let ample: Vec<usize> = calls.iter().map(|&lists| 2 * pairs_of(lists)).collect();
+    let mut buffer = vec![UNWRITTEN; ample.iter().copied().max().unwrap_or_default()];
+    let mut time = |rooms: &[usize], list: Contender| time_for(&calls, rooms, &mut buffer, list);
     let [door_tight, door_ample, wide, narrow] = best_of(ROUNDS, || {
         [
-            time_for(input, &mut tight, door::list),
-            time_for(input, &mut ample, door::list),
-            time_for(input, &mut tight, listing::list::<i128>),
-            time_for(input, &mut tight, listing::list::<i64>),
+            time(&tight, door::list),
+            time(&ample, door::list),
+            time(&tight, listing::list::<i128>),
+            time(&tight, listing::list::<i64>),
         ]
     });
     let door = door_tight.max(door_ample);
     let ratio = door / wide;
     say(&format!(
-        "{}, {} by {} triangles, {count} pairs found: door {door:.2} ns a pair, 128-bit {wide:.2} ns, ratio {ratio:.3}, goal {} (room for the pairs found {door_tight:.2} ns, for every pair {door_ample:.2} ns; 64-bit {narrow:.2} ns, ratio {:.2})",
+        "{}, {}, {} pairs found: door {door:.3} ns a pair, 128-bit {wide:.3} ns, ratio {ratio:.4}, goal {} (room for the pairs found {door_tight:.3} ns, for every pair {door_ample:.3} ns; 64-bit {narrow:.3} ns, ratio {:.4})",
         input.name,
-        triangles(&input.first),
-        triangles(&input.second),
+        told_calls(&calls),
+        counts.iter().sum::<usize>(),
         input.goal,
         narrow / wide,
     ));
     ratio
 }
 
-fn time_for(input: &Input, buffer: &mut [u32], list: Contender) -> f64 {
-    nanoseconds_each(all_pairs(input), || {
-        let (first, second) = (black_box(&input.first), black_box(&input.second));
-        black_box(list(first, second, black_box(buffer), 0));
+/// The calls of an input are alike, so the first tells how long their lists are.
+fn told_calls(calls: &[Lists]) -> String {
+    let [first, second] = calls[0].map(triangles);
+    let told = format!("{first} by {second} triangles");
+    match calls.len() {
+        1 => told,
+        count => format!("{count} calls of {told}"),
+    }
+}
+
+/// Each call has so much room of the buffer.
+fn time_for(calls: &[Lists], rooms: &[usize], buffer: &mut [u32], list: Contender) -> f64 {
+    let pairs = calls.iter().map(|&lists| pairs_of(lists)).sum();
+    nanoseconds_each(pairs, || {
+        for (&lists, &room) in calls.iter().zip(rooms) {
+            let [first, second] = black_box(lists);
+            black_box(list(first, second, black_box(&mut buffer[..room]), 0));
+        }
     })
 }

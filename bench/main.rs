@@ -1,7 +1,8 @@
 //! The benchmark: times calls of libdoor.a beside ordinary code that does the same job by the same
 //! method, on the same inputs in the same run, and gives the ratio of the two. The calls are `zg_pair`
 //! ("pairs"), `zg_segment` ("segments"), `zg_list` ("listings"), `zg_plate` ("plates") and `zg_sheet`
-//! ("sheets"). `zg_pair_bytes` ("bytes") is timed beside `zg_pair`, on the same pairs.
+//! ("sheets"). `zg_pair_bytes` ("bytes") is timed beside `zg_pair`, on the same pairs. A time is the
+//! processor's that the process takes.
 //!
 //! For the pairs, the segments and the listings the ordinary code has 128-bit numbers. With 64-bit
 //! numbers it is timed too, to show what of that is due to the width of the numbers alone. For the plates
@@ -12,8 +13,8 @@
 //! `bench/run` says how it is called, and which arguments go together.
 //!
 //! Exit status: 0 all agree; 1 two answers differ, or a ratio of the door is above what --at-most
-//! allows for the pairs and the segments, or with --goals above the goal of the bytes, a listing, a
-//! plate or a sheet; 2 bad arguments.
+//! allows for the pairs and the segments, or with --goals above the goal of the pairs, the bytes, a
+//! listing, a plate or a sheet; 2 bad arguments.
 
 mod bytes;
 mod door;
@@ -44,7 +45,7 @@ struct Asked {
     sheets: bool,
     /// The highest ratio that is allowed for the pairs and the segments.
     at_most: Option<f64>,
-    /// Whether the bytes, each listing, each plate and each sheet that is timed have to reach their goal.
+    /// Whether all that is timed, but for the segments, has to reach its goal.
     goals: bool,
 }
 
@@ -63,7 +64,7 @@ fn main() -> ExitCode {
     let mut all_well = true;
     let at_most = asked.at_most.unwrap_or(f64::INFINITY);
     if asked.pairs {
-        all_well &= told(verdicts::pairs(at_most));
+        all_well &= told(verdicts::pairs(at_most, asked.goals));
     }
     if asked.bytes {
         all_well &= told(bytes::compare_and_time(asked.goals));

@@ -1,7 +1,36 @@
 //! How the contenders are timed, and what is printed.
 
 use std::io::Write;
-use std::time::Instant;
+use std::time::Duration;
+
+/// Linux's number of the clock that goes while a processor works for this process: CLOCK_PROCESS_CPUTIME_ID.
+const PROCESS_CLOCK: i32 = 2;
+
+/// A time as Linux gives it on processors of 64 bits: C's `struct timespec`.
+#[repr(C)]
+struct ClockTime {
+    seconds: i64,
+    nanoseconds: i64,
+}
+
+// The C library's, which the standard library of Rust is linked with.
+unsafe extern "C" {
+    fn clock_gettime(clock: i32, time: *mut ClockTime) -> i32;
+}
+
+/// The processor's time that this process has taken so far, and not the wall's. The wall's clock goes on while
+/// other work has the processor: that is added to a contender that takes longer than its turn on the processor,
+/// and not to one that is done within it, so that under load the ratio would flatter the shorter call.
+fn process_time() -> Duration {
+    let mut time = ClockTime {
+        seconds: 0,
+        nanoseconds: 0,
+    };
+    // SAFETY: the pointer leads to a time laid out as C has it, and nothing else uses it meanwhile.
+    let result = unsafe { clock_gettime(PROCESS_CLOCK, &mut time) };
+    assert_eq!(result, 0, "the clock of the process can't be read");
+    Duration::new(time.seconds as u64, time.nanoseconds as u32)
+}
 
 /// The contenders take turns, each once a round. Of the rounds each one's best counts, which other
 /// work on the machine has disturbed least.
@@ -17,11 +46,11 @@ pub fn best_of<const CONTENDERS: usize>(
     best
 }
 
-/// What a piece of work over so many pairs, or calls, takes for each.
+/// What a piece of work over so many pairs, or calls, takes of the processor for each.
 pub fn nanoseconds_each(count: usize, work: impl FnOnce()) -> f64 {
-    let start = Instant::now();
+    let start = process_time();
     work();
-    start.elapsed().as_nanos() as f64 / count as f64
+    (process_time() - start).as_nanos() as f64 / count as f64
 }
 
 /// A reader that stops listening must not change the exit status, so a failed write is passed over.

@@ -11,22 +11,28 @@ pub const ROUNDS: usize = 101;
 /// The pairs that are timed, and the faulty ones, come from these seeds.
 pub const PAIRS_SEEDS: [u64; 3] = [1, 2, 3];
 pub const FAULTY_PAIRS_SEED: u64 = 4;
+/// The highest ratio to the ordinary test that the pair call should have.
+const PAIRS_GOAL: f64 = 0.45;
 
-/// The last line to print. It is an error where two answers differ or a ratio is too high.
-pub fn pairs(at_most: f64) -> Result<String, String> {
+/// The last line to print. It is an error where two answers differ, or a ratio is higher than is allowed
+/// or, where the goal has to be reached, than the goal.
+pub fn pairs(at_most: f64, goals: bool) -> Result<String, String> {
     let call = Call {
         name: "pair",
+        goal: Some(PAIRS_GOAL),
         door: door::pair,
         wide: ordinary::pair::<i128>,
         narrow: ordinary::pair::<i64>,
     };
-    call.compare_and_time::<TRIANGLE_NUMBERS>(PAIRS_SEEDS, FAULTY_PAIRS_SEED, at_most)
+    let limit = if goals { at_most.min(PAIRS_GOAL) } else { at_most };
+    call.compare_and_time::<TRIANGLE_NUMBERS>(PAIRS_SEEDS, FAULTY_PAIRS_SEED, limit)
 }
 
-/// The same of the segments.
+/// The same of the segments, which have no goal.
 pub fn segments(at_most: f64) -> Result<String, String> {
     let call = Call {
         name: "segment",
+        goal: None,
         door: door::segment,
         wide: ordinary::segment::<i128>,
         narrow: ordinary::segment::<i64>,
@@ -38,6 +44,7 @@ pub fn segments(at_most: f64) -> Result<String, String> {
 /// Each has a type of its own, so that none is called by way of a pointer.
 struct Call<Door, Wide, Narrow> {
     name: &'static str,
+    goal: Option<f64>,
     door: Door,
     wide: Wide,
     narrow: Narrow,
@@ -53,7 +60,7 @@ impl<Door: Test, Wide: Test, Narrow: Test> Call<Door, Wide, Narrow> {
         &self,
         seeds: [u64; 3],
         faulty_seed: u64,
-        at_most: f64,
+        limit: f64,
     ) -> Result<String, String> {
         let inputs = inputs::timed::<N>(seeds);
         let agreed = inputs.iter().map(|input| self.agreed_meeting(input));
@@ -67,9 +74,9 @@ impl<Door: Test, Wide: Test, Narrow: Test> Call<Door, Wide, Narrow> {
             .map(|(input, meeting)| self.timed_ratio(input, meeting));
         let highest = ratios.fold(0.0, f64::max);
         let name = self.name;
-        let line = format!("all {name} answers agree; the highest ratio of the door is {highest:.2}");
-        if highest > at_most {
-            return Err(format!("{line}, and at most {at_most} is allowed"));
+        let line = format!("all {name} answers agree; the highest ratio of the door is {highest:.3}");
+        if highest > limit {
+            return Err(format!("{line}, and at most {limit} is allowed"));
         }
         Ok(line)
     }
@@ -106,8 +113,9 @@ impl<Door: Test, Wide: Test, Narrow: Test> Call<Door, Wide, Narrow> {
             ]
         });
         let ratio = door / wide;
+        let told_goal = self.goal.map(|goal| format!(", goal {goal}")).unwrap_or_default();
         say(&format!(
-            "{}: door {door:.1} ns a {}, 128-bit {wide:.1} ns, ratio {ratio:.2} (64-bit {narrow:.1} ns, ratio {:.2}; meeting {:.0} in 100)",
+            "{}: door {door:.1} ns a {}, 128-bit {wide:.1} ns, ratio {ratio:.3}{told_goal} (64-bit {narrow:.1} ns, ratio {:.2}; meeting {:.0} in 100)",
             input.name,
             self.name,
             narrow / wide,

@@ -14,7 +14,7 @@ const CALLS: usize = 10_000;
 /// This many questions in a run of questions. One takes many times as long as a random call.
 const QUESTIONS: usize = 1_000;
 /// The highest ratio to the ordinary plate that the door should have.
-const GOAL: f64 = 1.5;
+const GOAL: f64 = 1.0;
 /// Of the calls that the plate would refuse, one in so many stays in a run that is timed.
 const REFUSED_ONCE_IN: u64 = 20;
 /// The middle of the grid goes from -MIDDLE_HALF to this, which leaves room for moves.
