@@ -16,9 +16,8 @@ use Rattle.algebra.proofs.Order.{le-of-lt, ≤ℤ-trans}
 use Rattle.shape.specs.Points.{coord, pointAt, pointsAt}
 use Rattle.shape.specs.Sharing.{Share}
 use Rattle.shape.proofs.Apart.{apart-along}
-use Rattle.shape.proofs.Trading.{share-trade}
 use Rattle.shape.proofs.Weights.{Every}
-use Rattle.boxes.specs.Boxes.{smaller, larger, better, bestAt, boxOf, before, boxesApart}
+use Rattle.boxes.specs.Boxes.{smaller, larger, better, bestAt, before}
 
 -- ---- numbers that the code reads
 -- A number of a list, stored in 32 bits and read back, is the number.
@@ -110,7 +109,7 @@ greatest : (c : ℕ) (l : List ℤ) → let g = bestAt larger c l in
     (getD l c (pos 0) ≤ℤ g) × (getD l (c + 3) (pos 0) ≤ℤ g) × (getD l (c + 6) (pos 0) ≤ℤ g)
 greatest = over-all (λ x g. x ≤ℤ g) larger ≤ℤ-refl (λ x y z p q. ≤ℤ-trans p q) (λ x y e. le-of-lt (lt-true e)) (λ x y e. lt-false e)
 
--- ---- boxes that are apart
+-- ---- triangles that are apart
 -- At coordinate c the three numbers of one triangle end before those of the other begin.
 abbrev Corners : (ℤ → Type 0) → ℕ → List ℤ → Type 0
 Corners F c l = F (getD l c (pos 0)) × F (getD l (c + 3) (pos 0)) × F (getD l (c + 6) (pos 0))
@@ -141,18 +140,3 @@ apart-at c h P Q e =
     let g = bestAt larger c P in
     let b = ends-before c P Q e in
     apart-along c g h (every-corner (λ x. x ≤ℤ g) c P h (b .0)) (every-corner (λ x. g <ℤ x) c Q h (b .1))
-
--- The tests one after the other: the first that says yes.
-either : {F : Type 0} (t u : Bool) → (t ≡ true → F) → (u ≡ true → F) → cond t true u ≡ true → F
-either true u f g e = f refl
-either false u f g e = g e
-
-apart-along-either : (c : ℕ) → c < 3 → (P Q : List ℤ) →
-    cond (ltZ (bestAt larger c P) (bestAt smaller c Q)) true (ltZ (bestAt larger c Q) (bestAt smaller c P)) ≡ true →
-    Share 3 (pointsAt 3 3 0 P) (pointsAt 3 3 0 Q) → ⊥
-apart-along-either c h P Q = either _ _ (apart-at c h P Q) (λ e m. apart-at c h Q P e (share-trade m))
-
-pub boxes-apart : (P Q : List ℤ) → boxesApart (boxOf P) (boxOf Q) ≡ true → Share 3 (pointsAt 3 3 0 P) (pointsAt 3 3 0 Q) → ⊥
-boxes-apart P Q =
-    either _ _ (apart-along-either 0 (omega arith) P Q)
-    (either _ _ (apart-along-either 1 (omega arith) P Q) (apart-along-either 2 (omega arith) P Q))

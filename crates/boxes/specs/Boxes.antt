@@ -1,5 +1,5 @@
--- The vocabulary of src/boxes.rt: the box of a triangle, six numbers, the least x, y and z of its corners and then the greatest; its normal,
--- three numbers; and a list of which both are known.
+-- The vocabulary of src/boxes.rt: the box of a triangle, six numbers, the least x, y and z of its corners and then the greatest; and its normal,
+-- three numbers.
 use mathlib.Core.Path.{_≡_}
 use mathlib.Core.Bool.{Bool, true, cond}
 use mathlib.Core.List.{List, [], _∷_}
@@ -63,16 +63,13 @@ three i normals = take 3 (drop (3 * i) normals)
 abbrev pub Normals : List ℤ → List ℤ → Type 0
 Normals numbers normals = (i : ℕ) → i < triangles numbers → three i normals ≡ normalIn (nine i numbers)
 
--- A triangle on the grid, and its box and normal.
-pub record Known (corners bounds plane : List ℤ) : Type 0 where
+-- A triangle on the grid, and its normal.
+pub record Known (corners plane : List ℤ) : Type 0 where
   pub ready : Ready 9 corners
-  pub boxed : bounds ≡ boxOf corners
   pub normal : plane ≡ normalIn corners
 
--- A sound list, and the boxes and normals of its triangles.
-pub record Prepared (numbers boxes normals : List ℤ) : Type 0 where
+-- A sound list, and the normals of its triangles.
+pub record Prepared (numbers normals : List ℤ) : Type 0 where
   pub sound : Sound numbers
-  pub room-of-boxes : 6 * triangles numbers ≤ length boxes
-  pub boxed : Boxed numbers boxes
-  pub room-of-normals : 3 * triangles numbers ≤ length normals
+  pub room : 3 * triangles numbers ≤ length normals
   pub normal : Normals numbers normals

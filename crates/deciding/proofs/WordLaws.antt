@@ -13,17 +13,19 @@ use lib.ListN.{length, getD, set}
 use lib.Pow.{pow-pos}
 use lib.Seq.{getD-set-same, getD-set-other}
 use mir.Val.{boolByte}
+use Rattle.shape.specs.Points.{pointsAt}
+use Rattle.shape.specs.Sharing.{Share}
 use Rattle.shape.proofs.VerdictLaws.{says-no}
 use Rattle.kernel.specs.Meeting.{Judges}
 use Rattle.words.specs.Bits.{bit, ones, Lowest}
 use Rattle.words.specs.Spans.{firstOf, span}
 use Rattle.words.proofs.BitLaws.{bit-of-none, ones-of-none, bit-added, bit-added-other, ones-added, added-small, few-ones}
 use Rattle.words.proofs.LowestLaws.{lowest-is-set, lowest-is-gone, others-stay, lowest-added, rest-less, lowest-within}
-use Rattle.boxes.specs.Boxes.{boxOf, six}
+use Rattle.boxes.specs.Boxes.{Boxed}
 use Rattle.boxes.specs.Triangles.{triangles, nine}
-use Rattle.sifting.specs.Tables.{Candidates}
+use Rattle.sifting.specs.Tables.{CandidatesBelow}
 use Rattle.sifting.proofs.EndLaws.{boxes-reach}
-use Rattle.deciding.specs.Words.{Verdicts, onesBelow, VerdictsBelow, Decided}
+use Rattle.deciding.specs.Words.{MayMeet, MayMeetBelow, Verdicts, onesBelow, VerdictsBelow, Decided}
 
 -- ---- a word with one verdict more, where it had none
 -- Its place in the word was 0, and becomes 1 where the verdict is yes.
@@ -60,10 +62,10 @@ pub record Deciding (corners second : List ℤ) (from n left bits found : ℕ) :
   pub count : found ≡ ones n bits
 
 -- At first none has one, and the others are apart from the triangle.
-pub deciding-starts : (corners second bounds boxes : List ℤ) (from n candidates : ℕ) → Candidates bounds boxes from n candidates → bounds ≡ boxOf corners →
-    ((t : ℕ) → t < n → six (from + t) boxes ≡ boxOf (nine (from + t) second)) → Deciding corners second from n candidates 0 0
-deciding-starts corners second bounds boxes from n candidates sifted box other = record {
-  few = sifted .small;
+pub deciding-starts : {corners second : List ℤ} {from n candidates : ℕ} → MayMeet corners second from n candidates →
+    Deciding corners second from n candidates 0 0
+deciding-starts {corners} {second} {from} {n} {candidates} may = record {
+  few = may .small;
   small = pow-pos n;
   open-yet = λ t set. bit-of-none t;
   right = apart;
@@ -74,7 +76,7 @@ deciding-starts corners second bounds boxes from n candidates sifted box other =
     apart t h clear =
         rw (bit-of-none t)
         (says-no
-        (λ shared. let set = sifted .set t h (rw (box, other t h) (boxes-reach corners (nine (from + t) second) shared)) in
+        (λ shared. let set = may .set t h shared in
         let same : _≡_ {A = ℕ} 0 1 = cc in
         omega arith))
 
@@ -122,6 +124,18 @@ deciding-fits {n} {bits} few so-far =
 pub deciding-ends : {corners second : List ℤ} {from n bits found : ℕ} → Deciding corners second from n 0 bits found →
     Verdicts corners second from n bits × (found ≡ ones n bits)
 deciding-ends so-far = (record { small = so-far .small; right = λ t h. so-far .right t h (bit-of-none t) }, so-far .count)
+
+-- ---- candidates by boxes
+-- Triangles that have a point in common have boxes that reach each other.
+pub may-meet : (a b bounds boxes : List ℤ) (words : List ℕ) → Boxed a bounds → Boxed b boxes →
+    CandidatesBelow bounds boxes (triangles b) words (triangles a * 16) → MayMeetBelow a b words (triangles a * 16)
+may-meet a b bounds boxes words first second sifted k h = record { small = sifted k h .small; set = set }
+  where
+    set : (t : ℕ) → t < span (triangles b) (firstOf k) →
+        Share 3 (pointsAt 3 3 0 (nine (k / 16) a)) (pointsAt 3 3 0 (nine (firstOf k + t) b)) → bit t (getD words k 0) ≡ true
+    set t inside shared =
+        sifted k h .set t inside
+        (rw (first (k / 16) (omega arith), second (firstOf k + t) (omega arith)) (boxes-reach (nine (k / 16) a) (nine (firstOf k + t) b) shared))
 
 -- ---- words that are stored one after the other
 -- Word k is stored: the words before it are as they were.

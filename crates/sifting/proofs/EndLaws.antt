@@ -10,14 +10,14 @@ use lib.Dec.{ltb}
 use lib.IntN.{ℤ, pos, negsuc, predℤ, negℤ, _-ℤ_, predℤ-+ℤ, +ℤ-idl}
 use lib.ListN.{getD, take, drop}
 use lib.Seq.{getD-take, getD-drop}
-use lib.Signed.{ltZ, mag, _≤ℤ_}
+use lib.Signed.{ltZ, mag, _≤ℤ_, clashℤ}
 use mir.Syntax.{w32}
 use mir.Val.{toZ, ofZ, hbits}
 use Rattle.shape.specs.Points.{pointsAt}
 use Rattle.shape.specs.Sharing.{Share}
 use Rattle.shape.proofs.Trading.{share-trade}
-use Rattle.boxes.specs.Boxes.{smaller, larger, bestAt, boxOf, six}
-use Rattle.boxes.proofs.BoxLaws.{read, lt-false, apart-at}
+use Rattle.boxes.specs.Boxes.{smaller, larger, bestAt, boxOf, apartAlong, boxesApart, six}
+use Rattle.boxes.proofs.BoxLaws.{read, lt-true, lt-false, apart-at}
 use Rattle.sifting.specs.Ends.{mirror, endOf, reachOf, Reaches}
 
 -- ---- numbers mirrored
@@ -48,13 +48,37 @@ module _ (z : ℤ) (fits : Fits z) where
 pub of-six : (j e : ℕ) (boxes : List ℤ) → e < 6 → getD (six j boxes) e (pos 0) ≡ getD boxes (6 * j + e) (pos 0)
 of-six j e boxes h = getD-take 6 (drop (6 * j) boxes) e (pos 0) h ∙ getD-drop (6 * j) boxes e (pos 0)
 
--- ---- triangles that have a point in common
+-- ---- boxes that are apart
 mirror-le : (x y : ℤ) → x ≤ℤ y → mirror y ≤ℤ mirror x
 mirror-le (pos a) (pos b) h = record { le = h .le }
 mirror-le (pos a) (negsuc b) h = absurd (h .le)
 mirror-le (negsuc a) (pos b) h = record { le = tt }
 mirror-le (negsuc a) (negsuc b) h = record { le = h .le }
 
+mirror-back : (x y : ℤ) → mirror x ≤ℤ mirror y → y ≤ℤ x
+mirror-back (pos a) (pos b) h = record { le = h .le }
+mirror-back (pos a) (negsuc b) h = record { le = tt }
+mirror-back (negsuc a) (pos b) h = absurd (h .le)
+mirror-back (negsuc a) (negsuc b) h = record { le = h .le }
+
+not-before : {x y : ℤ} → y ≤ℤ x → ltZ x y ≡ false
+not-before {x} {y} h = by-test (ltZ x y) refl
+  where
+    by-test : (t : Bool) → ltZ x y ≡ t → t ≡ false
+    by-test true e = clashℤ (lt-true e) h
+    by-test false e = refl
+
+-- A box that reaches another is not apart from it.
+pub reaching-boxes : (first second : List ℤ) → Reaches first second → boxesApart first second ≡ false
+reaching-boxes first second reaches =
+    λ i. cond (neither 0 (reaches 0 (omega arith)) (reaches 3 (omega arith)) i) true
+    (cond (neither 1 (reaches 1 (omega arith)) (reaches 4 (omega arith)) i) true (neither 2 (reaches 2 (omega arith)) (reaches 5 (omega arith)) i))
+  where
+    neither : (c : ℕ) → getD second c (pos 0) ≤ℤ getD first (c + 3) (pos 0) → mirror (getD second (c + 3) (pos 0)) ≤ℤ mirror (getD first c (pos 0)) →
+        apartAlong c first second ≡ false
+    neither c ahead behind = λ i. cond (not-before ahead i) true (not-before (mirror-back (getD second (c + 3) (pos 0)) (getD first c (pos 0)) behind) i)
+
+-- ---- triangles that have a point in common
 -- Along coordinate c, the box of Q begins where that of P ends or before.
 along : (c : ℕ) → c < 3 → (P Q : List ℤ) → Share 3 (pointsAt 3 3 0 P) (pointsAt 3 3 0 Q) → bestAt smaller c Q ≤ℤ bestAt larger c P
 along c h P Q shared = by-test (ltZ (bestAt larger c P) (bestAt smaller c Q)) refl

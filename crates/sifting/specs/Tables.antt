@@ -2,7 +2,7 @@
 -- with a bit for each of 1,024 boxes: it is set where the box begins before the mark. A box whose reach ends before the mark reaches only those. The
 -- last row is of no mark, and all its bits are set.
 use mathlib.Core.Path.{_≡_}
-use mathlib.Core.Bool.{Bool, true}
+use mathlib.Core.Bool.{true}
 use mathlib.Core.Logic.{_⊎_}
 use mathlib.Core.List.{List}
 use Prim.Native.Nat.{ℕ, _+_, _-_, _*_, _/_, _^_, _≤_, _<_}
@@ -27,21 +27,19 @@ SiftsAt boxes marks m table k =
 abbrev pub AllSet : (m : ℕ) (table : List ℕ) (w : ℕ) → Type 0
 AllSet m table w = getD table (1536 + w) 0 ≡ 2 ^ span m (w * 64) - 1
 
--- A table on m boxes. The rows of the marks are there where it is `marked`.
-pub record Table (marked : Bool) (boxes marks : List ℤ) (m : ℕ) (table : List ℕ) : Type 0 where
+-- A table on m boxes.
+pub record Table (boxes marks : List ℤ) (m : ℕ) (table : List ℕ) : Type 0 where
   pub size : length table ≡ 1552
-  pub rows : marked ≡ true → (k : ℕ) → k < 1536 → SiftsAt boxes marks m table k
+  pub rows : (k : ℕ) → k < 1536 → SiftsAt boxes marks m table k
   pub last : (w : ℕ) → w < 16 → AllSet m table w
 
 -- A row that serves a number at end e: the last, or that of a mark of the end which the number is below.
-abbrev pub RowFor : (marked : Bool) (marks : List ℤ) (e : ℕ) (number : ℤ) (row : ℕ) → Type 0
-RowFor marked marks e number row =
-    (row ≡ 96) ⊎ ((marked ≡ true) × (row < 96) × (row / 16 ≡ e) × (number <ℤ getD marks row (pos 0)))
+abbrev pub RowFor : (marks : List ℤ) (e : ℕ) (number : ℤ) (row : ℕ) → Type 0
+RowFor marks e number row = (row ≡ 96) ⊎ ((row < 96) × (row / 16 ≡ e) × (number <ℤ getD marks row (pos 0)))
 
 -- A row for each of the six ends of a box.
-pub record RowsFor (marked : Bool) (marks box : List ℤ) (rows : List ℕ) : Type 0 where
-  pub size : length rows ≡ 6
-  pub each : (e : ℕ) → e < 6 → RowFor marked marks e (reachOf e box) (getD rows e 0)
+pub record RowsFor (marks box : List ℤ) (rows : List ℕ) : Type 0 where
+  pub each : (e : ℕ) → e < 6 → RowFor marks e (reachOf e box) (getD rows e 0)
 
 -- Word w of the last row and of six others, joined: a bit that all of them have is set.
 pub record Joined (table rows : List ℕ) (w word : ℕ) : Type 0 where
@@ -54,8 +52,7 @@ pub record Candidates (box boxes : List ℤ) (from n word : ℕ) : Type 0 where
   pub small : word < 2 ^ n
   pub set : (t : ℕ) → t < n → Reaches box (six (from + t) boxes) → bit t word ≡ true
 
--- Six rows of a table that serve a box: what word w of theirs leaves are candidates.
-pub record Serve (box boxes : List ℤ) (m : ℕ) (table rows : List ℕ) : Type 0 where
-  pub size : length table ≡ 1552
-  pub each : (e : ℕ) → e < 6 → getD rows e 0 ≤ 96
-  pub leave : (w word : ℕ) → w < 16 → Joined table rows w word → Candidates box boxes (w * 64) (span m (w * 64)) word
+-- The first n words, 16 for each box of the first list, on m boxes of the second.
+abbrev pub CandidatesBelow : (bounds boxes : List ℤ) (m : ℕ) (words : List ℕ) (n : ℕ) → Type 0
+CandidatesBelow bounds boxes m words n =
+    (k : ℕ) → k < n → Candidates (six (k / 16) bounds) boxes (firstOf k) (span m (firstOf k)) (getD words k 0)

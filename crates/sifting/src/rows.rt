@@ -1,7 +1,6 @@
-// The rows that serve a box, and the boxes that are left by them.
+// The rows of a table that serve a box, and the boxes that they leave.
 use crate::ends::reach_at;
 ghost use mathlib.Core.Path.{_≡_};
-ghost use mathlib.Core.Bool.{true};
 ghost use Prim.Native.Nat.{ℕ, _+_, _*_, _/_, _≤_, _<_};
 ghost use lib.ListN.{length, getD};
 ghost use Rattle.sifting.specs.Tables.{RowFor, RowsFor, Joined};
@@ -31,7 +30,7 @@ fn sought(marks: &[i32], number: i32, from: usize) -> usize
 // The row of a mark of end e that a number is below, or the last. What was sought is looked at, so that nothing has to be known of the marks' order.
 fn row_of(marks: &[i32], e: usize, number: i32) -> usize
     requires { ⌜ (e < 6) × (length (now marks) ≡ 96) ⌝ }
-    ensures { λ r. ⌜ RowFor true (now (marks .entry)) e number r ⌝ }
+    ensures { λ r. ⌜ RowFor (now (marks .entry)) e number r ⌝ }
 {
     let row = sought(marks, number, 16 * e);
     if number < marks[row] {
@@ -41,23 +40,21 @@ fn row_of(marks: &[i32], e: usize, number: i32) -> usize
 }
 
 // The rows that serve a box, one for each end.
-pub fn rows_of(marked: bool, marks: &[i32], bounds: &[i32]) -> [usize; 6]
+pub fn rows_of(marks: &[i32], bounds: &[i32]) -> [usize; 6]
     requires { ⌜ (length (now marks) ≡ 96) × (length (now bounds) ≡ 6) ⌝ }
-    ensures { λ r. ⌜ RowsFor marked (now (marks .entry)) (now (bounds .entry)) r ⌝ }
+    ensures { λ r. ⌜ RowsFor (now (marks .entry)) (now (bounds .entry)) r ⌝ }
 {
     let mut rows = [96usize; 6];
-    if marked {
-        let mut e: usize = 0;
-        while e < 6 {
-            rows[e] = row_of(marks, e, reach_at(bounds, e));
-            e += 1;
-        }
+    let mut e: usize = 0;
+    while e < 6 {
+        rows[e] = row_of(marks, e, reach_at(bounds, e));
+        e += 1;
     }
     rows
 }
 
-// The boxes of word w that six rows leave.
-pub fn candidates_of(table: &[u64], rows: [usize; 6], w: usize) -> u64
+// Word w of six rows and the last, joined: the boxes that all of them leave.
+pub fn joined_of(table: &[u64], rows: [usize; 6], w: usize) -> u64
     requires { ⌜ (length (now table) ≡ 1552) × (w < 16) × ((e : ℕ) → e < 6 → getD rows e 0 ≤ 96) ⌝ }
     ensures { λ r. ⌜ Joined (now (table .entry)) rows w r ⌝ }
 {

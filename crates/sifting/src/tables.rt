@@ -4,12 +4,8 @@ use crate::marks::put_marks;
 use words::span_of;
 ghost use mathlib.Core.Path.{_≡_};
 ghost use Prim.Native.Nat.{ℕ, _+_, _-_, _*_, _^_, _≤_, _<_};
-ghost use lib.IntN.{pos};
 ghost use lib.ListN.{length, getD};
 ghost use Rattle.sifting.specs.Tables.{Sifts, SiftsAt, AllSet, Table};
-
-// So many pairs of two lists are worth their tables. Of fewer each is looked at.
-const WORTH: usize = 32_768;
 
 // Which of `count` boxes from one on begin before the mark, at end e. The last is asked first, so that the first is the lowest bit.
 fn word_of(boxes: &[i32], e: usize, mark: i32, from: usize, count: usize) -> u64
@@ -61,17 +57,12 @@ fn put_last_row(table: &mut [u64], m: usize)
     }
 }
 
-// The tables of m boxes that n others are asked about. Tells whether they have the rows of the marks.
-pub fn put_tables(marks: &mut [i32], table: &mut [u64], boxes: &[i32], n: usize, m: usize) -> bool
-    requires { ⌜ (length (now marks) ≡ 96) × (length (now table) ≡ 1552) × (n ≤ 1024) × (m ≤ 1024) × (6 * m ≤ length (now boxes)) ⌝ }
-    ensures { λ r. ⌜ (length (now (marks .exit)) ≡ 96) × Table r (now (boxes .entry)) (now (marks .exit)) m (now (table .exit)) ⌝ }
+// The marks and the table of m boxes.
+pub fn put_table(marks: &mut [i32], table: &mut [u64], boxes: &[i32], m: usize)
+    requires { ⌜ (length (now marks) ≡ 96) × (length (now table) ≡ 1552) × (0 < m) × (m ≤ 1024) × (6 * m ≤ length (now boxes)) ⌝ }
+    ensures { λ r. ⌜ (length (now (marks .exit)) ≡ 96) × Table (now (boxes .entry)) (now (marks .exit)) m (now (table .exit)) ⌝ }
 {
-    if n * m < WORTH {
-        put_last_row(table, m);
-        return false;
-    }
     put_marks(marks, boxes, m);
     put_rows(table, marks, boxes, m);
     put_last_row(table, m);
-    true
 }

@@ -11,17 +11,15 @@ use Rattle.deciding.proofs.deciding.decide_word.Statement.{statement}
 use Rattle.deciding.proofs.deciding.decide_word.Tie as tie
 
 abbrev Inv-loop : tie.InvT-loop
-Inv-loop corners bounds plane second boxes normals from candidates bits₀ found₀ left₀ bits found left =
+Inv-loop corners plane second normals from candidates bits₀ found₀ left₀ bits found left =
     Deciding corners second from (span (triangles second) from) left bits found
 
 abbrev μ-loop : tie.MeasureT-loop
-μ-loop corners bounds plane second boxes normals from candidates bits₀ found₀ left₀ bits found left = left
+μ-loop corners plane second normals from candidates bits₀ found₀ left₀ bits found left = left
 
 loop-holds : tie.Need-loop-holds Inv-loop μ-loop
 loop-holds c =
-    let a = c .args in
-    deciding-starts (a .corners .now) (a .second .now) (a .bounds .now) (a .boxes .now) (a .from) (span (triangles (a .second .now)) (a .from)) (a .candidates)
-    (c .pre .2) (c .pre .0 .boxed) (λ t h. c .pre .1 .boxed (a .from + t) (omega (arith, h)))
+    deciding-starts (c .pre .2)
 
 without-lowest-requires : tie.Need-without-lowest-requires Inv-loop μ-loop
 without-lowest-requires c κs = search needs

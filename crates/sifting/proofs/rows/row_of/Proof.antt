@@ -30,7 +30,7 @@ returns c =
     let row = q .sought .result in
     let below = lt-true (sym (read-same ltZ (a .number) (getD (a .marks .now) row (pos 0)) (q .before .fits .number .sfits) (c .before .if12 .given)) ∙ c .if1 .taken) in
     let of-end : row / 16 ≡ a .e = omega (arith, q .sought .ensures .0, q .sought .ensures .1) in
-    inr (refl, omega (arith, q .sought .ensures .1, q .before .pre .0), of-end, below)
+    inr (omega (arith, q .sought .ensures .1, q .before .pre .0), of-end, below)
 
 returns-2 : tie.Need-returns-2
 returns-2 c = inl refl

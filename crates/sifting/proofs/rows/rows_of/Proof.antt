@@ -1,12 +1,10 @@
--- `sifting::rows::rows_of` meets its contract: a row is sought for each end, or all are the last. Assumes nothing.
+-- `sifting::rows::rows_of` meets its contract: a row is sought for each end. Assumes nothing.
 use mathlib.Core.Path.{_≡_, refl, sym, subst, _∙_}
-use mathlib.Core.Bool.{true}
-use mathlib.Core.Logic.{inl, inr}
 use Prim.Native.Nat.{ℕ, _-_, _≤_, _<_}
 use native.Mathlib.Omega.{arith}
 use borrow.Author.Count.{below-more}
 use lib.IntN.{ℤ}
-use lib.ListN.{length, getD, set, getD-replicate, length-set}
+use lib.ListN.{length, getD, set, length-set}
 use lib.Seq.{getD-set-same, getD-set-other}
 use mir.Syntax.{w32}
 use Rattle.algebra.proofs.Machine.{returned}
@@ -17,10 +15,10 @@ use Rattle.sifting.proofs.rows.rows_of.Statement.{statement}
 use Rattle.sifting.proofs.rows.rows_of.Tie as tie
 
 abbrev Inv-loop : tie.InvT-loop
-Inv-loop marked marks bounds rows₀ e₀ rows e = (e ≤ 6) × (length rows ≡ 6) × ((d : ℕ) → d < e → RowFor true marks d (reachOf d bounds) (getD rows d 0))
+Inv-loop marks bounds rows₀ e₀ rows e = (e ≤ 6) × (length rows ≡ 6) × ((d : ℕ) → d < e → RowFor marks d (reachOf d bounds) (getD rows d 0))
 
 abbrev μ-loop : tie.MeasureT-loop
-μ-loop marked marks bounds rows₀ e₀ rows e = 6 - e
+μ-loop marks bounds rows₀ e₀ rows e = 6 - e
 
 loop-holds : tie.Need-loop-holds Inv-loop μ-loop
 loop-holds c = (omega arith, refl, λ d h. absurd (omega arith))
@@ -46,13 +44,13 @@ loop-less c = search needs
 loop-again : tie.Need-loop-again Inv-loop μ-loop
 loop-again c =
     let l = c .before .before .before .loop in
-    let a = c .before .before .before .before .before .args in
+    let a = c .before .before .before .before .args in
     let reach = c .before .reach-at in
-    let this : RowFor true (a .marks .now) (l .e) (reachOf (l .e) (a .bounds .now)) (c .row-of .result) =
-    subst (λ (z : ℤ). RowFor true (a .marks .now) (l .e) z (c .row-of .result)) (returned w32 (reach .ok) (reach .ensures)) (c .row-of .ensures) in (
+    let this : RowFor (a .marks .now) (l .e) (reachOf (l .e) (a .bounds .now)) (c .row-of .result) =
+    subst (λ (z : ℤ). RowFor (a .marks .now) (l .e) z (c .row-of .result)) (returned w32 (reach .ok) (reach .ensures)) (c .row-of .ensures) in (
       omega (arith, c .before .before .loop-test .taken),
       length-set (l .rows) (l .e) (c .row-of .result) ∙ l .inv .1,
-      below-more (λ d. RowFor true (a .marks .now) d (reachOf d (a .bounds .now)) (getD (set (l .rows) (l .e) (c .row-of .result)) d 0)) (l .e)
+      below-more (λ d. RowFor (a .marks .now) d (reachOf d (a .bounds .now)) (getD (set (l .rows) (l .e) (c .row-of .result)) d 0)) (l .e)
           (λ d h. rw (getD-set-other (l .rows) (l .e) d (c .row-of .result) 0 (λ e. omega arith)) (l .inv .2 d h))
           (rw (getD-set-same (l .rows) (l .e) (c .row-of .result) 0 (omega (arith, l .inv .1, c .before .before .loop-test .taken))) this),
     )
@@ -60,11 +58,7 @@ loop-again c =
 returns : tie.Need-returns Inv-loop μ-loop
 returns c =
     let l = c .before .loop in
-    let p = c .before .before in
-    rw (p .if1 .taken) (record { size = l .inv .1; each = λ e h. l .inv .2 e (omega (arith, c .loop-test .left, h)) })
-
-returns-2 : tie.Need-returns-2 Inv-loop μ-loop
-returns-2 c = record { size = refl; each = λ e h. inl (getD-replicate 6 e 96 0 h) }
+    record { each = λ e h. l .inv .2 e (omega (arith, c .loop-test .left, h)) }
 
 pub rows-of-spec : {M : Type 1} → statement M
 rows-of-spec =
@@ -80,5 +74,4 @@ rows-of-spec =
     add-e
     loop-less
     loop-again
-    returns
-    returns-2)
+    returns)

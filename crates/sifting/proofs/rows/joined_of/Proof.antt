@@ -1,4 +1,4 @@
--- `sifting::rows::candidates_of` meets its contract: a bit that the last row and the rows before e have is set. Assumes nothing.
+-- `sifting::rows::joined_of` meets its contract: a bit that the last row and the rows before e have is set. Assumes nothing.
 use mathlib.Core.Path.{_≡_, refl}
 use mathlib.Core.Bool.{true}
 use Prim.Native.Nat.{ℕ, _+_, _-_, _*_, _≤_, _<_}
@@ -8,8 +8,8 @@ use lib.ListN.{length, getD}
 use Rattle.words.specs.Bits.{bit}
 use Rattle.sifting.proofs.TableLaws.{both-set}
 use borrow.Author.Needs.{needs}
-use Rattle.sifting.proofs.rows.candidates_of.Statement.{statement}
-use Rattle.sifting.proofs.rows.candidates_of.Tie as tie
+use Rattle.sifting.proofs.rows.joined_of.Statement.{statement}
+use Rattle.sifting.proofs.rows.joined_of.Tie as tie
 
 abbrev Inv-loop : tie.InvT-loop
 Inv-loop table w rows some₀ e₀ some e =
@@ -78,8 +78,8 @@ returns c =
     let l = c .before .loop in
     record { most = l .inv .1; set = λ t last each. l .inv .2 t last (λ d h. each d (omega (arith, l .inv .0, h))) }
 
-pub candidates-of-spec : {M : Type 1} → statement M
-candidates-of-spec =
+pub joined-of-spec : {M : Type 1} → statement M
+joined-of-spec =
     tie.close
     (tie.spec
     Inv-loop
