@@ -6,7 +6,8 @@ use plane::plane_triangle;
 use plane::planes_meet;
 use space::normal_of;
 use space::space_triangle;
-use wires::any_triangles_meet;
+use space::standing_over;
+use wires::meet_by_standing;
 use wires::segment_meets_any;
 ghost use mathlib.Core.Path.{_≡_};
 ghost use lib.ListN.{length};
@@ -41,9 +42,12 @@ pub fn triangles_meet(first: &[i32], second: &[i32]) -> bool
     requires { ⌜ Ready 9 (now first) × Ready 9 (now second) ⌝ }
     ensures { λ r. ⌜ Judges 3 3 3 (now (first .entry)) (now (second .entry)) r ⌝ }
 {
-    let t = space_triangle(first);
-    let u = space_triangle(second);
-    any_triangles_meet(t, normal_of(t), u, normal_of(u))
+    let n = normal_of(space_triangle(second));
+    let s = standing_over(first, second, n);
+    if s == 0 {
+        return false; // the first is beside the second's plane: nobody asks for its own normal
+    }
+    meet_by_standing(first, s, normal_of(space_triangle(first)), second, n)
 }
 
 // The normal that fills a list of three numbers.
@@ -77,10 +81,10 @@ pub fn known_triangles_meet(first: &[i32], m: &[i64], second: &[i32], n: &[i64])
     requires { ⌜ Ready 9 (now first) × Ready 9 (now second) × (now m ≡ normalIn (now first)) × (now n ≡ normalIn (now second)) ⌝ }
     ensures { λ r. ⌜ Judges 3 3 3 (now (first .entry)) (now (second .entry)) r ⌝ }
 {
-    any_triangles_meet(
-        space_triangle(first),
-        normal_in(m),
-        space_triangle(second),
-        normal_in(n),
-    )
+    let known = normal_in(n);
+    let s = standing_over(first, second, known);
+    if s == 0 {
+        return false;
+    }
+    meet_by_standing(first, s, normal_in(m), second, known)
 }

@@ -1,5 +1,5 @@
--- The tests in space (specs/SpaceTest.antt) say yes exactly when the two shapes have a point in common: two triangles that are not
--- flat, and a segment and a triangle that is not flat. Assumes nothing.
+-- The tests in space (specs/SpaceTest.antt) are right: two triangles that are not flat in one plane, two of which each has a corner alone, and a
+-- segment and a triangle that is not flat. Assumes nothing.
 use mathlib.Core.Path.{_≡_, refl, sym, _∙_, subst₃}
 use mathlib.Core.Bool.{Bool, true, false}
 use mathlib.Core.List.{[], _∷_}
@@ -11,13 +11,13 @@ use Rattle.shape.specs.Signs.{side}
 use Rattle.shape.specs.Sharing.{Share}
 use Rattle.shape.specs.Flat.{Flat}
 use Rattle.shape.specs.Verdicts.{Says}
-use Rattle.shape.specs.SpaceTest.{Standing, beside, within, alone, standing, pattern, byStanding, swapped, placed, without, axis, inPlaneTest, segmentInPlaneTest, lastSigns, crossingTest, spaceTest, segmentSpaceTest}
+use Rattle.shape.specs.SpaceTest.{beside, alone, swapped, placed, without, axis, inPlaneTest, segmentInPlaneTest, lastSigns, segmentSpaceTest}
 use Rattle.shape.proofs.SignLaws.{neighbours-trade, carry-past}
 use Rattle.shape.proofs.Trading.{share-trade, share-among, among-itself, share-turned, share-turned-twice, share-mirrored}
-use Rattle.shape.proofs.VerdictLaws.{says-no, says-same}
+use Rattle.shape.proofs.VerdictLaws.{says-same}
 use Rattle.shape.proofs.FlatLaws.{flat-in-plane}
 use Rattle.shape.proofs.PlaneTest.{triangle-test, segment-test}
-use Rattle.shape.proofs.Standings.{Alone, alone-swapped, By, After, Fits, fits, says-by-ends}
+use Rattle.shape.proofs.Standings.{Alone, alone-swapped, By, After, Fits, says-by-ends}
 use Rattle.shape.proofs.Planes.{corners-on, below-plane, above-plane}
 use Rattle.shape.proofs.Dropping.{normalAt, OnPlane, share-dropped, axis-stands, flat-dropped}
 use Rattle.shape.proofs.SpaceLeaves.{last-signs, past-no-edge}
@@ -26,7 +26,7 @@ use Rattle.shape.proofs.SpaceLeaves.{last-signs, past-no-edge}
 not-flat-without : (k : ℕ) (a b c : Point) → (normalAt k a b c ≡ pos 0 → ⊥) → Flat 2 (without k a ∷ without k b ∷ without k c ∷ []) → ⊥
 not-flat-without k a b c not-zero flat = not-zero (flat-in-plane (without k a) (without k b) (without k c) .0 flat)
 
-in-plane : (p1 q1 r1 p2 q2 r2 : Point) → (Flat 3 (p1 ∷ q1 ∷ r1 ∷ []) → ⊥) → (Flat 3 (p2 ∷ q2 ∷ r2 ∷ []) → ⊥) →
+pub in-plane : (p1 q1 r1 p2 q2 r2 : Point) → (Flat 3 (p1 ∷ q1 ∷ r1 ∷ []) → ⊥) → (Flat 3 (p2 ∷ q2 ∷ r2 ∷ []) → ⊥) →
     OnPlane p2 q2 r2 p1 → OnPlane p2 q2 r2 q1 → OnPlane p2 q2 r2 r1 →
     Says (inPlaneTest p1 q1 r1 p2 q2 r2) (Share 3 (p1 ∷ q1 ∷ r1 ∷ []) (p2 ∷ q2 ∷ r2 ∷ []))
 in-plane p1 q1 r1 p2 q2 r2 not-flat-1 not-flat-2 on-p on-q on-r =
@@ -99,7 +99,7 @@ signs-first (suc (suc turns)) false x y z h = h
 signs-first (suc (suc turns)) true x y z h = h
 
 -- Both triangles in their new orders: the second one inside, against the first as it is then, and the first one outside.
-crossing : (p1 q1 r1 p2 q2 r2 : Point) (turns1 turns2 : ℕ) (swap1 swap2 : Bool) →
+pub crossing : (p1 q1 r1 p2 q2 r2 : Point) (turns1 turns2 : ℕ) (swap1 swap2 : Bool) →
     Fits (alone turns1 swap2) (side p2 q2 r2 p1) (side p2 q2 r2 q1) (side p2 q2 r2 r1) →
     Fits (alone turns2 swap1) (side p1 q1 r1 p2) (side p1 q1 r1 q2) (side p1 q1 r1 r2) →
     Says (placed turns1 swap1 (λ a b c. placed turns2 swap2 (lastSigns a b c) p2 q2 r2) p1 q1 r1) (Share 3 (p1 ∷ q1 ∷ r1 ∷ []) (p2 ∷ q2 ∷ r2 ∷ []))
@@ -115,34 +115,11 @@ crossing p1 q1 r1 p2 q2 r2 turns1 turns2 swap1 swap2 fit-1 fit-2 =
     second-in-order a b c lone fit =
         in-new-order a b c Alone Alone (λ x y z h. alone-swapped h) (lastSigns a b c) (last-signs a b c) turns2 swap2 p2 q2 r2 lone fit
 
--- ---- the tests
+-- ---- beside a plane, and a segment
 -- All corners of a triangle on one side of another's plane.
-beside-apart : (a b c p q r : Point) → Fits beside (side a b c p) (side a b c q) (side a b c r) → Share 3 (a ∷ b ∷ c ∷ []) (p ∷ q ∷ r ∷ []) → ⊥
+pub beside-apart : (a b c p q r : Point) → Fits beside (side a b c p) (side a b c q) (side a b c r) → Share 3 (a ∷ b ∷ c ∷ []) (p ∷ q ∷ r ∷ []) → ⊥
 beside-apart a b c p q r (inl h) = below-plane a b c (p ∷ q ∷ r ∷ []) (h .0, (h .1, (h .2, tt)))
 beside-apart a b c p q r (inr h) = above-plane a b c (p ∷ q ∷ r ∷ []) (h .0, (h .1, (h .2, tt)))
-
--- Two triangles in space, neither flat.
-module _ (p1 q1 r1 p2 q2 r2 : Point) (not-flat-1 : Flat 3 (p1 ∷ q1 ∷ r1 ∷ []) → ⊥) (not-flat-2 : Flat 3 (p2 ∷ q2 ∷ r2 ∷ []) → ⊥) where
-  abbrev Meet : Type 0
-  Meet = Share 3 (p1 ∷ q1 ∷ r1 ∷ []) (p2 ∷ q2 ∷ r2 ∷ [])
-
-  by-second : (turns1 : ℕ) (swap2 : Bool) → Fits (alone turns1 swap2) (side p2 q2 r2 p1) (side p2 q2 r2 q1) (side p2 q2 r2 r1) →
-      (st : Standing) → Fits st (side p1 q1 r1 p2) (side p1 q1 r1 q2) (side p1 q1 r1 r2) →
-      Says (byStanding st (inPlaneTest p2 q2 r2 p1 q1 r1) (λ turns2 swap1. placed turns1 swap1 (λ a b c. placed turns2 swap2 (lastSigns a b c) p2 q2 r2) p1 q1 r1)) Meet
-  by-second turns1 swap2 fit-1 beside h = says-no (beside-apart p1 q1 r1 p2 q2 r2 h)
-  by-second turns1 swap2 fit-1 within h =
-      says-same (share-trade, share-trade) (in-plane p2 q2 r2 p1 q1 r1 not-flat-2 not-flat-1 (h .0) (h .1) (h .2))
-  by-second turns1 swap2 fit-1 (alone turns2 swap1) fit-2 = crossing p1 q1 r1 p2 q2 r2 turns1 turns2 swap1 swap2 fit-1 fit-2
-
-  by-first : (st : Standing) → Fits st (side p2 q2 r2 p1) (side p2 q2 r2 q1) (side p2 q2 r2 r1) →
-      Says (byStanding st (inPlaneTest p1 q1 r1 p2 q2 r2) (crossingTest p1 q1 r1 p2 q2 r2)) Meet
-  by-first beside h = says-no (λ s. beside-apart p2 q2 r2 p1 q1 r1 h (share-trade s))
-  by-first within h = in-plane p1 q1 r1 p2 q2 r2 not-flat-1 not-flat-2 (h .0) (h .1) (h .2)
-  by-first (alone turns1 swap2) fit-1 =
-      by-second turns1 swap2 fit-1 (standing (pattern p2 q2 r2 p1 q1 r1)) (fits (side p1 q1 r1 p2) (side p1 q1 r1 q2) (side p1 q1 r1 r2))
-
-  pub space-test : Says (spaceTest p1 q1 r1 p2 q2 r2) Meet
-  space-test = by-first (standing (pattern p1 q1 r1 p2 q2 r2)) (fits (side p2 q2 r2 p1) (side p2 q2 r2 q1) (side p2 q2 r2 r1))
 
 -- A segment, flat or not, and a triangle that is not flat, in space.
 pub segment-space-test : (p q a b c : Point) → (Flat 3 (a ∷ b ∷ c ∷ []) → ⊥) →

@@ -17,14 +17,16 @@ use Rattle.shape.specs.Signs.{turnIn, side, sign, digit}
 use Rattle.shape.specs.Sharing.{Share}
 use Rattle.shape.specs.Flat.{Flat}
 use Rattle.shape.specs.Verdicts.{Says}
-use Rattle.shape.specs.WireTest.{bothBelow, stretchesMeet, oneSide, shadowsMeet, segmentsTest, eitherEdge, segmentTriangleTest, trianglesTest}
+use Rattle.shape.specs.SpaceTest.{Standing, beside, within, alone, standing, pattern, byStanding, placed, lastSigns}
+use Rattle.shape.specs.WireTest.{bothBelow, stretchesMeet, oneSide, shadowsMeet, segmentsTest, eitherEdge, segmentTriangleTest, closeTest, crossingTest, trianglesTest}
 use Rattle.shape.proofs.Symbols.{O}
 use Rattle.shape.proofs.Trading.{share-trade}
-use Rattle.shape.proofs.VerdictLaws.{says-less, says-both, says-either, says-neither, says-by, says-same}
+use Rattle.shape.proofs.VerdictLaws.{says-no, says-less, says-both, says-either, says-neither, says-by, says-same}
 use Rattle.shape.proofs.FlatLaws.{turnIn-trade, zero-says, below-says, is-flat}
 use Rattle.shape.proofs.Segments.{OneSide, BothBelow, sideIn, Touching, touching-is-meeting}
 use Rattle.shape.proofs.Thin.{two-edges}
-use Rattle.shape.proofs.SpaceTest.{space-test, segment-space-test}
+use Rattle.shape.proofs.Standings.{Fits, fits}
+use Rattle.shape.proofs.SpaceTest.{in-plane, crossing, beside-apart, segment-space-test}
 
 -- ---- the numbers
 both-below-says : (p q r s : ℤ) → Says (bothBelow p q r s) (BothBelow p q r s)
@@ -158,8 +160,11 @@ segment-triangle-test p q a b c =
     (edges-say (p ∷ q ∷ []) (segmentsTest p q) (λ x y. says-same (share-trade, share-trade) (segments-test p q x y)) a b c flat))
     (segment-space-test p q a b c)
 
-pub triangles-test : (p1 q1 r1 p2 q2 r2 : Point) → Says (trianglesTest p1 q1 r1 p2 q2 r2) (Share 3 (p1 ∷ q1 ∷ r1 ∷ []) (p2 ∷ q2 ∷ r2 ∷ []))
-triangles-test p1 q1 r1 p2 q2 r2 =
+-- ---- two triangles
+-- The first in the plane of the second, or one of them flat.
+close-test : (p1 q1 r1 p2 q2 r2 : Point) → Fits within (side p2 q2 r2 p1) (side p2 q2 r2 q1) (side p2 q2 r2 r1) →
+    Says (closeTest p1 q1 r1 p2 q2 r2) (Share 3 (p1 ∷ q1 ∷ r1 ∷ []) (p2 ∷ q2 ∷ r2 ∷ []))
+close-test p1 q1 r1 p2 q2 r2 on =
     says-by (is-flat 3 (p1 ∷ q1 ∷ r1 ∷ []))
     (edges-say (p2 ∷ q2 ∷ r2 ∷ []) (λ x y. segmentTriangleTest x y p2 q2 r2) (λ x y. segment-triangle-test x y p2 q2 r2) p1 q1 r1)
     (λ first-not-flat.
@@ -167,4 +172,25 @@ triangles-test p1 q1 r1 p2 q2 r2 =
     (λ flat.
     says-same (share-trade, share-trade)
     (edges-say (p1 ∷ q1 ∷ r1 ∷ []) (λ x y. segmentTriangleTest x y p1 q1 r1) (λ x y. segment-triangle-test x y p1 q1 r1) p2 q2 r2 flat))
-    (space-test p1 q1 r1 p2 q2 r2 first-not-flat))
+    (λ second-not-flat. in-plane p1 q1 r1 p2 q2 r2 first-not-flat second-not-flat (on .0) (on .1) (on .2)))
+
+module _ (p1 q1 r1 p2 q2 r2 : Point) where
+  abbrev Meet : Type 0
+  Meet = Share 3 (p1 ∷ q1 ∷ r1 ∷ []) (p2 ∷ q2 ∷ r2 ∷ [])
+
+  by-second : (turns1 : ℕ) (swap2 : Bool) → Fits (alone turns1 swap2) (side p2 q2 r2 p1) (side p2 q2 r2 q1) (side p2 q2 r2 r1) →
+      (st : Standing) → Fits st (side p1 q1 r1 p2) (side p1 q1 r1 q2) (side p1 q1 r1 r2) →
+      Says (byStanding st (closeTest p2 q2 r2 p1 q1 r1) (λ turns2 swap1. placed turns1 swap1 (λ a b c. placed turns2 swap2 (lastSigns a b c) p2 q2 r2) p1 q1 r1)) Meet
+  by-second turns1 swap2 fit-1 beside h = says-no (beside-apart p1 q1 r1 p2 q2 r2 h)
+  by-second turns1 swap2 fit-1 within h = says-same (share-trade, share-trade) (close-test p2 q2 r2 p1 q1 r1 h)
+  by-second turns1 swap2 fit-1 (alone turns2 swap1) fit-2 = crossing p1 q1 r1 p2 q2 r2 turns1 turns2 swap1 swap2 fit-1 fit-2
+
+  by-first : (st : Standing) → Fits st (side p2 q2 r2 p1) (side p2 q2 r2 q1) (side p2 q2 r2 r1) →
+      Says (byStanding st (closeTest p1 q1 r1 p2 q2 r2) (crossingTest p1 q1 r1 p2 q2 r2)) Meet
+  by-first beside h = says-no (λ s. beside-apart p2 q2 r2 p1 q1 r1 h (share-trade s))
+  by-first within h = close-test p1 q1 r1 p2 q2 r2 h
+  by-first (alone turns1 swap2) fit-1 =
+      by-second turns1 swap2 fit-1 (standing (pattern p2 q2 r2 p1 q1 r1)) (fits (side p1 q1 r1 p2) (side p1 q1 r1 q2) (side p1 q1 r1 r2))
+
+  pub triangles-test : Says (trianglesTest p1 q1 r1 p2 q2 r2) Meet
+  triangles-test = by-first (standing (pattern p1 q1 r1 p2 q2 r2)) (fits (side p2 q2 r2 p1) (side p2 q2 r2 q1) (side p2 q2 r2 r1))

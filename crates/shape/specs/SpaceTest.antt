@@ -1,6 +1,6 @@
--- The tests in space as decisions by signs: two triangles, and a segment and a triangle, by document 01's method (document 000,
--- section 3), where no triangle is flat (WireTest.antt has the others). No public promise speaks of them; code computes them.
--- proofs/SpaceTest.antt shows that each says yes exactly when the two shapes have a point in common.
+-- The tests in space as decisions by signs, by document 01's method (document 000, section 3): how a triangle stands to another's plane, what is
+-- asked of two triangles then, and a segment and a triangle that is not flat. WireTest.antt puts them together, with the shapes that may be flat. No
+-- public promise speaks of them; code computes them. proofs/SpaceTest.antt shows that each says yes exactly when the two shapes have a point in common.
 use mathlib.Core.Bool.{Bool, true, false, cond}
 use mathlib.Core.List.{List, [], _∷_}
 use Prim.Native.Nat.{ℕ, zero, suc, _+_, _*_}
@@ -96,20 +96,10 @@ segmentInPlaneWithout k p q a b c = segmentTest (without k p) (without k q) (wit
 abbrev pub segmentInPlaneTest : (p q a b c : Point) → Bool
 segmentInPlaneTest p q a b c = segmentInPlaneWithout (axis a b c) p q a b c
 
--- ---- two triangles
+-- ---- two triangles that each have a corner alone
 -- The last two signs, where p1 and p2 are alone on the non-negative sides: no where one is above zero.
 abbrev pub lastSigns : (p1 q1 r1 p2 q2 r2 : Point) → Bool
 lastSigns p1 q1 r1 p2 q2 r2 = cond (isAbove p1 q1 p2 q2) false (cond (isAbove p1 r1 r2 p2) false true)
-
--- The first triangle in its new order, and the second by its own standing.
-abbrev pub crossingTest : (p1 q1 r1 p2 q2 r2 : Point) → ℕ → Bool → Bool
-crossingTest p1 q1 r1 p2 q2 r2 turns1 swap2 =
-    byStanding (standing (pattern p2 q2 r2 p1 q1 r1)) (inPlaneTest p2 q2 r2 p1 q1 r1)
-    (λ turns2 swap1. placed turns1 swap1 (λ a b c. placed turns2 swap2 (lastSigns a b c) p2 q2 r2) p1 q1 r1)
-
-abbrev pub spaceTest : (p1 q1 r1 p2 q2 r2 : Point) → Bool
-spaceTest p1 q1 r1 p2 q2 r2 =
-    byStanding (standing (pattern p1 q1 r1 p2 q2 r2)) (inPlaneTest p1 q1 r1 p2 q2 r2) (crossingTest p1 q1 r1 p2 q2 r2)
 
 -- ---- a segment p q and a triangle a b c
 -- p is the end at the higher level: no where the segment passes an edge on the outside.

@@ -11,7 +11,7 @@ use lib.Signed.{ltZ}
 use Rattle.shape.specs.Points.{Point, coord}
 use Rattle.shape.specs.Signs.{turn}
 use Rattle.shape.specs.Flat.{allBelow, isFlat}
-use Rattle.shape.specs.SpaceTest.{level, without, spaceTest, segmentSpaceTest}
+use Rattle.shape.specs.SpaceTest.{level, pattern, standing, byStanding, placed, without, inPlaneTest, lastSigns, segmentSpaceTest}
 
 -- ---- two segments p q and r s, whose ends may be equal
 -- Whether both p and q are below r and below s.
@@ -54,9 +54,21 @@ eitherEdge test a b c = cond (test a b) true (test b c)
 abbrev pub segmentTriangleTest : (p q a b c : Point) → Bool
 segmentTriangleTest p q a b c = cond (isFlat 3 (a ∷ b ∷ c ∷ [])) (eitherEdge (segmentsTest p q) a b c) (segmentSpaceTest p q a b c)
 
--- Two triangles: a flat one by its edges, the first before the second, and two that are not flat as before.
-abbrev pub trianglesTest : (p1 q1 r1 p2 q2 r2 : Point) → Bool
-trianglesTest p1 q1 r1 p2 q2 r2 =
+-- Two triangles, the first in the plane of the second, or one of them flat: a flat one by its edges, the first before the second, and two that are
+-- not flat by the flat test.
+abbrev pub closeTest : (p1 q1 r1 p2 q2 r2 : Point) → Bool
+closeTest p1 q1 r1 p2 q2 r2 =
     cond (isFlat 3 (p1 ∷ q1 ∷ r1 ∷ [])) (eitherEdge (λ a b. segmentTriangleTest a b p2 q2 r2) p1 q1 r1)
     (cond (isFlat 3 (p2 ∷ q2 ∷ r2 ∷ [])) (eitherEdge (λ a b. segmentTriangleTest a b p1 q1 r1) p2 q2 r2)
-    (spaceTest p1 q1 r1 p2 q2 r2))
+    (inPlaneTest p1 q1 r1 p2 q2 r2))
+
+-- One corner of the first triangle is alone: the first in its new order, and the second by its own standing.
+abbrev pub crossingTest : (p1 q1 r1 p2 q2 r2 : Point) → ℕ → Bool → Bool
+crossingTest p1 q1 r1 p2 q2 r2 turns1 swap2 =
+    byStanding (standing (pattern p2 q2 r2 p1 q1 r1)) (closeTest p2 q2 r2 p1 q1 r1)
+    (λ turns2 swap1. placed turns1 swap1 (λ a b c. placed turns2 swap2 (lastSigns a b c) p2 q2 r2) p1 q1 r1)
+
+-- Two triangles. Every point is on the plane of a flat one, whose normal is zero, so that flat ones come to the close test by themselves.
+abbrev pub trianglesTest : (p1 q1 r1 p2 q2 r2 : Point) → Bool
+trianglesTest p1 q1 r1 p2 q2 r2 =
+    byStanding (standing (pattern p1 q1 r1 p2 q2 r2)) (closeTest p1 q1 r1 p2 q2 r2) (crossingTest p1 q1 r1 p2 q2 r2)

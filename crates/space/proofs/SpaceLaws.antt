@@ -1,19 +1,21 @@
--- What the proofs of the tests in space share: the table of standings, what a normal tells, triangles in a new order, and coordinates dropped.
+-- What the proofs of the tests in space share: the numbers of standings, what a normal tells, corners in a new order, and coordinates dropped.
 -- Assumes nothing.
 use mathlib.Core.Path.{_≡_, refl, sym, _∙_, ap, subst}
-use mathlib.Core.Bool.{Bool, true, false}
+use mathlib.Core.Bool.{Bool, true, false, not, _&&_, cond}
 use mathlib.Core.List.{List, [], _∷_}
-use Prim.Native.Nat.{ℕ, zero, suc, _≤_}
+use Prim.Native.Nat.{ℕ, zero, suc, _+_, _*_, _≤_}
 use native.Mathlib.Omega.{arith}
 use native.Mathlib.Decide.{ℕ-discrete}
 use lib.ListN.{length, getD}
 use lib.Dec.{eqb}
+use borrow.Author.Tests.{ltb-true, ltb-false}
 use lib.IntN.{ℤ, natAbs}
+use mir.Val.{boolByte}
 use Rattle.shape.specs.Points.{Point, coord, pointAt}
 use Rattle.shape.specs.Signs.{row, sign, digit}
 use Rattle.shape.specs.Flat.{isFlat}
 use Rattle.shape.specs.Normals.{dot, normalOf, axisOf}
-use Rattle.shape.specs.SpaceTest.{level, Standing, beside, standings, standing, byStanding, placed, keptFirst, keptSecond, without, axis, lastSigns}
+use Rattle.shape.specs.SpaceTest.{level, Standing, beside, standings, standing, byStanding, placed, keptFirst, keptSecond, without, axis}
 use Rattle.shape.proofs.FlatLaws.{is-flat}
 use Rattle.shape.proofs.VerdictLaws.{says-fixed}
 use Rattle.shape.proofs.Planes.{side-by-normal}
@@ -21,11 +23,10 @@ use Rattle.shape.proofs.Dropping.{axis-says}
 use Rattle.exact.specs.Grid.{limit, Ready}
 use Rattle.exact.specs.Vectors.{spatial, Sized, minorSize, normalIn}
 use Rattle.plane.specs.Planes.{PlaneAt, SizedTriangle}
-use Rattle.space.specs.Spaces.{SpaceAt, SizedSpace, IsNormal, ofSpace, ofSpaces, placedAs, toldStanding}
+use Rattle.space.specs.Spaces.{SpaceAt, SizedSpace, IsNormal, ofSpace, ofSpaces, ofList, turnsIn, swapIn, toldStanding, Numbered, Stands, orderOf, seconds, thirds, placeBy, InOrder}
 use Rattle.plane.specs.declared.meeting.PlaneTriangle.{PlaneTriangle}
 use Rattle.exact.specs.declared.determinant.SpacePoint.{SpacePoint}
 use Rattle.space.specs.declared.meeting.SpaceTriangle.{SpaceTriangle}
-use Rattle.space.specs.declared.meeting.Standing.{Standing as StandingAnswer}
 use Rattle.exact.proofs.GridLaws.{sized-point}
 use Rattle.plane.proofs.PlaneLaws.{size-at}
 use Rattle.exact.proofs.Readings.{sized-normal}
@@ -36,19 +37,30 @@ past [] d i h = refl
 past (a ∷ l) d zero h = absurd (omega arith)
 past (a ∷ l) d (suc i) h = past l d i (omega arith)
 
-pub past-table : (p : ℕ) → 26 ≤ p → beside ≡ standing p
-past-table p h = by-order (ℕ-discrete p 26)
+-- The number is none of those below n, as a `match` leaves it that has an arm for each.
+abbrev pub NoneBelow : (n p : ℕ) → Type 0
+NoneBelow zero p = Unit {0}
+NoneBelow (suc n) p = NoneBelow n p × (p ≡ n → ⊥)
+
+pub past-table : (p : ℕ) → NoneBelow 26 p → beside ≡ standing p
+past-table p none = by-order (ℕ-discrete p 26)
   where
+    least : (n : ℕ) → NoneBelow n p → n ≤ p
+    least zero h = omega arith
+    least (suc n) h = omega (arith, least n (h .0), h .1)
+
     by-order : Dec (p ≡ 26) → beside ≡ standing p
     by-order (yes e) = sym (ap standing e)
-    by-order (no n) = sym (past standings beside p (omega (arith, n)))
+    by-order (no n) = sym (past standings beside p (omega (arith, least 26 none, n)))
 
--- The verdict by the standing that code found for the pattern p, which is q.
-pub by-standing : {found v : StandingAnswer} {p q : ℕ} (inPlane : Bool) (crossing : ℕ → Bool → Bool) {answer : Bool} →
-    toldStanding found ≡ standing p → p ≡ q → found ≡ v → answer ≡ byStanding (toldStanding v) inPlane crossing →
-    answer ≡ byStanding (standing q) inPlane crossing
-by-standing inPlane crossing e f g h =
-    h ∙ ap (λ (s : Standing). byStanding s inPlane crossing) (sym (ap toldStanding g) ∙ e ∙ ap standing f)
+-- The number that an arm gives for its pattern.
+pub stands : {p s k : ℕ} → p ≡ k → toldStanding s ≡ standing k → Numbered s → Stands p s
+stands e told number = record { told = told ∙ sym (ap standing e); number = number }
+
+-- The verdict by the standing that code found: its number is s.
+pub by-standing : {p s : ℕ} (close : Bool) (crossing : ℕ → Bool → Bool) {answer : Bool} →
+    Stands p s → answer ≡ byStanding (toldStanding s) close crossing → answer ≡ byStanding (standing p) close crossing
+by-standing close crossing h e = e ∙ ap (λ (st : Standing). byStanding st close crossing) (h .told)
 
 -- ---- the corners of a triangle that is known to stand at a, b, c
 module _ {a b c : Point} {t : SpaceTriangle} (at : SpaceAt a b c t) where
@@ -61,6 +73,10 @@ module _ {a b c : Point} {t : SpaceTriangle} (at : SpaceAt a b c t) where
 
   pub space-at : {X : Type 0} (f : Point → Point → Point → X) → ofSpace f t ≡ f a b c
   space-at f = λ i. f (at .at-p i) (at .at-q i) (at .at-r i)
+
+pub spaces-at : {a b c p q r : Point} {t u : SpaceTriangle} → SpaceAt a b c t → SpaceAt p q r u → {X : Type 0} (f : (p1 q1 r1 p2 q2 r2 : Point) → X) →
+    ofSpaces f t u ≡ f a b c p q r
+spaces-at at-t at-u f = λ i. f (at-t .at-p i) (at-t .at-q i) (at-t .at-r i) (at-u .at-p i) (at-u .at-q i) (at-u .at-r i)
 
 -- The triangle of a list that passed its checks.
 pub sized-triangle : {l : List ℤ} {t : SpaceTriangle} → Ready 9 l → SpaceAt (pointAt 3 0 l) (pointAt 3 3 l) (pointAt 3 6 l) t → SizedSpace limit t
@@ -91,35 +107,48 @@ module _ (t : SpaceTriangle) {n : SpacePoint} (normal : IsNormal t n) where
       ∙ says-fixed (axis-says (spatial (t .p)) (spatial (t .q)) (spatial (t .r))) (is-flat 3 (spatial (t .p) ∷ spatial (t .q) ∷ spatial (t .r) ∷ []))
 
 -- ---- a new order of the corners
-pub sized-placed : (turns : ℕ) (swap : Bool) {n : ℕ} {t u : SpaceTriangle} → u ≡ placedAs turns swap t → SizedSpace n t → SizedSpace n u
-sized-placed turns swap {n} {t} e s = subst (λ (u : SpaceTriangle). SizedSpace n u) (sym e) (each turns swap)
+-- The places that the tables tell are those of the new order, and they are in the list.
+pub record Places (turns order : ℕ) (swap : Bool) : Type 1 where
+  pub first-in : 3 * turns ≤ 6
+  pub second-in : getD seconds order 0 ≤ 6
+  pub third-in : getD thirds order 0 ≤ 6
+  pub in-order : {C X : Type 0} (corner : ℕ → C) (f : C → C → C → X) →
+      f (corner (3 * turns)) (corner (getD seconds order 0)) (corner (getD thirds order 0)) ≡ placed turns swap f (corner 0) (corner 3) (corner 6)
+
+pub places : (s r : ℕ) → Numbered s → Numbered r → Places (turnsIn s) (orderOf s r) (swapIn r)
+places s r hs hr = by-swap (swapIn r) refl
   where
-    each : (turns : ℕ) (swap : Bool) → SizedSpace n (placedAs turns swap t)
-    each zero false = record { at-p = s .at-p; at-q = s .at-q; at-r = s .at-r }
-    each zero true = record { at-p = s .at-p; at-q = s .at-r; at-r = s .at-q }
-    each (suc zero) false = record { at-p = s .at-q; at-q = s .at-r; at-r = s .at-p }
-    each (suc zero) true = record { at-p = s .at-q; at-q = s .at-p; at-r = s .at-r }
-    each (suc (suc k)) false = record { at-p = s .at-r; at-q = s .at-p; at-r = s .at-q }
-    each (suc (suc k)) true = record { at-p = s .at-r; at-q = s .at-q; at-r = s .at-p }
+    each : (turns : ℕ) (swap : Bool) → turns ≤ 2 → Places turns (turns + boolByte swap * 4) swap
+    each zero false h = record { first-in = omega arith; second-in = omega arith; third-in = omega arith; in-order = λ corner f. refl }
+    each zero true h = record { first-in = omega arith; second-in = omega arith; third-in = omega arith; in-order = λ corner f. refl }
+    each (suc zero) false h = record { first-in = omega arith; second-in = omega arith; third-in = omega arith; in-order = λ corner f. refl }
+    each (suc zero) true h = record { first-in = omega arith; second-in = omega arith; third-in = omega arith; in-order = λ corner f. refl }
+    each (suc (suc zero)) false h = record { first-in = omega arith; second-in = omega arith; third-in = omega arith; in-order = λ corner f. refl }
+    each (suc (suc zero)) true h = record { first-in = omega arith; second-in = omega arith; third-in = omega arith; in-order = λ corner f. refl }
+    each (suc (suc (suc turns))) swap h = absurd (omega arith)
 
--- A function of the corners in their new order.
-pub of-placed : {X : Type 0} (turns : ℕ) (swap : Bool) (f : Point → Point → Point → X) (t : SpaceTriangle) →
-    ofSpace f (placedAs turns swap t) ≡ ofSpace (placed turns swap f) t
-of-placed zero false f t = refl
-of-placed zero true f t = refl
-of-placed (suc zero) false f t = refl
-of-placed (suc zero) true f t = refl
-of-placed (suc (suc k)) false f t = refl
-of-placed (suc (suc k)) true f t = refl
+    by-swap : (swap : Bool) → swapIn r ≡ swap → Places (turnsIn s) (orderOf s r) swap
+    by-swap false e =
+        subst (λ (k : ℕ). Places (turnsIn s) k false) (omega (arith, ltb-false 7 r e, hr .small)) (each (turnsIn s) false (hs .few))
+    by-swap true e = subst (λ (k : ℕ). Places (turnsIn s) k true) (omega (arith, ltb-true 7 r e, hr .small)) (each (turnsIn s) true (hs .few))
 
--- The last signs of two triangles in their new orders.
-pub last-placed : (turns1 turns2 : ℕ) (swap1 swap2 : Bool) {t u : SpaceTriangle} (t0 u0 : SpaceTriangle) →
-    t ≡ placedAs turns1 swap1 t0 → u ≡ placedAs turns2 swap2 u0 →
-    ofSpaces lastSigns t u ≡ ofSpace (placed turns1 swap1 (λ a b c. ofSpace (placed turns2 swap2 (lastSigns a b c)) u0)) t0
-last-placed turns1 turns2 swap1 swap2 t0 u0 e f =
-    (λ i. ofSpaces lastSigns (e i) (f i))
-    ∙ of-placed turns1 swap1 (λ a b c. ofSpace (lastSigns a b c) (placedAs turns2 swap2 u0)) t0
-    ∙ (λ i. ofSpace (placed turns1 swap1 (λ a b c. of-placed turns2 swap2 (lastSigns a b c) u0 i)) t0)
+-- A triangle that was read in that order.
+module _ (s r : ℕ) (l : List ℤ) {t : SpaceTriangle} (at : InOrder s r l t) where
+  pub sized-in-order : Ready 9 l → SizedSpace limit t
+  sized-in-order ready =
+      space-size-at at (sized-point ready 3 (3 * turnsIn s) refl) (sized-point ready 3 (placeBy seconds s r) refl) (sized-point ready 3 (placeBy thirds s r) refl)
+
+  pub of-in-order : Numbered s → Numbered r → {X : Type 0} (f : Point → Point → Point → X) → ofSpace f t ≡ ofList (placed (turnsIn s) (swapIn r) f) l
+  of-in-order hs hr f = space-at at f ∙ places s r hs hr .in-order (λ k. pointAt 3 k l) f
+
+-- The answer is that neither of two tests is passed.
+pub neither : {v w t u : Bool} → v ≡ t → w ≡ u → not v && not w ≡ cond t false (cond u false true)
+neither {v} {w} {t} {u} e f = (λ i. not (e i) && not (f i)) ∙ each t u
+  where
+    each : (t u : Bool) → not t && not u ≡ cond t false (cond u false true)
+    each true u = refl
+    each false true = refl
+    each false false = refl
 
 -- ---- a coordinate dropped
 sized-without : {n : ℕ} (k : ℕ) {a : Point} → Sized n a → Sized n (without k a)

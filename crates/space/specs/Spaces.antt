@@ -2,15 +2,17 @@
 -- (specs/SpaceTest.antt) on their corners.
 use mathlib.Core.Path.{_≡_}
 use mathlib.Core.Bool.{Bool}
-use Prim.Native.Nat.{ℕ}
-use Rattle.shape.specs.Points.{Point}
+use mathlib.Core.List.{List, [], _∷_}
+use Prim.Native.Nat.{ℕ, zero, suc, _+_, _*_, _/_, _%_, _≤_}
+use lib.Dec.{ltb}
+use lib.ListN.{getD}
+use lib.IntN.{ℤ}
+use Rattle.shape.specs.Points.{Point, pointAt}
 use Rattle.shape.specs.Normals.{normalOf}
-use Rattle.shape.specs.SpaceTest.{Standing, beside, within, alone, placed}
+use Rattle.shape.specs.SpaceTest.{Standing, beside, within, alone, standing, placed, lastSigns}
 use Rattle.exact.specs.Vectors.{spatial, Sized, minorSize}
 use Rattle.exact.specs.declared.determinant.SpacePoint.{SpacePoint}
 use Rattle.space.specs.declared.meeting.SpaceTriangle.{SpaceTriangle}
-use Rattle.space.specs.declared.meeting.Standing.{Standing as StandingAnswer}
-use Rattle.space.specs.declared.meeting.Standing.the-variants.{Beside, Within, Alone}
 
 -- The corners of t are a, b and c.
 pub record SpaceAt (a b c : Point) (t : SpaceTriangle) : Type 0 where
@@ -25,23 +27,67 @@ ofSpace f t = f (spatial (t .p)) (spatial (t .q)) (spatial (t .r))
 abbrev pub ofSpaces : {X : Type 0} → ((p1 q1 r1 p2 q2 r2 : Point) → X) → SpaceTriangle → SpaceTriangle → X
 ofSpaces f t = ofSpace (f (spatial (t .p)) (spatial (t .q)) (spatial (t .r)))
 
+-- The same of the corners in lists of nine numbers.
+abbrev pub ofList : {X : Type 0} → (Point → Point → Point → X) → List ℤ → X
+ofList f l = f (pointAt 3 0 l) (pointAt 3 3 l) (pointAt 3 6 l)
+
+abbrev pub ofLists : {X : Type 0} → ((p1 q1 r1 p2 q2 r2 : Point) → X) → List ℤ → List ℤ → X
+ofLists f k l = ofList (ofList f k) l
+
 -- No coordinate of a corner is larger than n, whatever its sign.
 pub record SizedSpace (n : ℕ) (t : SpaceTriangle) : Type 0 where
   pub at-p : Sized n (spatial (t .p))
   pub at-q : Sized n (spatial (t .q))
   pub at-r : Sized n (spatial (t .r))
 
--- The corners turned so many times, and then the last two swapped or not.
-abbrev pub placedAs : ℕ → Bool → SpaceTriangle → SpaceTriangle
-placedAs turns swap t = placed turns swap (λ p q r. record { p = p; q = q; r = r }) (t .p) (t .q) (t .r)
-
 -- The vector n is the normal of t.
 pub record IsNormal (t : SpaceTriangle) (n : SpacePoint) : Type 0 where
   pub is : spatial n ≡ ofSpace normalOf t
   pub small : Sized minorSize (spatial n)
 
--- A standing, as the code names it.
-abbrev pub toldStanding : StandingAnswer → Standing
-toldStanding Beside = beside
-toldStanding Within = within
-toldStanding (Alone turns swap) = alone turns swap
+-- ---- standings by their numbers
+-- The turns that a number tells, and whether the other triangle's last two corners have to be swapped.
+abbrev pub turnsIn : ℕ → ℕ
+turnsIn s = s % 4
+
+abbrev pub swapIn : ℕ → Bool
+swapIn s = ltb 7 s
+
+abbrev pub toldStanding : ℕ → Standing
+toldStanding zero = beside
+toldStanding (suc zero) = within
+toldStanding (suc (suc n)) = alone (turnsIn (suc (suc n))) (swapIn (suc (suc n)))
+
+-- The turns are three, and the number is one of those of a standing.
+pub record Numbered (s : ℕ) : Type 0 where
+  pub few : turnsIn s ≤ 2
+  pub small : s ≤ 10
+
+-- The number s is that of the standing that the pattern p names.
+pub record Stands (p s : ℕ) : Type 0 where
+  pub told : toldStanding s ≡ standing p
+  pub number : Numbered s
+
+-- ---- the corners in their new orders
+-- The order of a triangle's corners whose standing is s and the other's r, and the places in its list where its second and its third stand by it: the
+-- code's tables.
+abbrev pub orderOf : (s r : ℕ) → ℕ
+orderOf s r = turnsIn s + r / 8 * 4
+
+abbrev pub seconds : List ℕ
+seconds = 3 ∷ 6 ∷ 0 ∷ 0 ∷ 6 ∷ 0 ∷ 3 ∷ 0 ∷ []
+
+abbrev pub thirds : List ℕ
+thirds = 6 ∷ 0 ∷ 3 ∷ 0 ∷ 3 ∷ 6 ∷ 0 ∷ 0 ∷ []
+
+abbrev pub placeBy : List ℕ → (s r : ℕ) → ℕ
+placeBy places s r = getD places (orderOf s r) 0
+
+-- The corners of t are those of the list in that order.
+abbrev pub InOrder : (s r : ℕ) → List ℤ → SpaceTriangle → Type 0
+InOrder s r l t = SpaceAt (pointAt 3 (3 * turnsIn s) l) (pointAt 3 (placeBy seconds s r) l) (pointAt 3 (placeBy thirds s r) l) t
+
+-- The last signs of both triangles in the orders that their standings ask for.
+abbrev pub lastSignsBy : (s r : ℕ) → List ℤ → List ℤ → Bool
+lastSignsBy s r t u =
+    ofList (placed (turnsIn s) (swapIn r) (λ a b c. ofList (placed (turnsIn r) (swapIn s) (lastSigns a b c)) u)) t

@@ -4,9 +4,11 @@
 mod meeting;
 
 pub use meeting::SpaceTriangle;
+pub use meeting::crossing;
 pub use meeting::is_null;
+pub use meeting::meet_in_plane;
 pub use meeting::normal_of;
 pub use meeting::segment_meets_space;
 pub use meeting::space_triangle;
-pub use meeting::spaces_meet;
+pub use meeting::standing_over;
 pub use meeting::without_coordinate;

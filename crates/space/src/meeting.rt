@@ -10,28 +10,21 @@ use plane::PlaneTriangle;
 use plane::planes_meet;
 use plane::segment_meets_plane;
 ghost use mathlib.Core.Path.{_≡_};
+ghost use Prim.Native.Nat.{_*_, _<_, _≤_};
 ghost use lib.Dec.{eqb};
 ghost use Rattle.shape.specs.Points.{pointAt};
 ghost use Rattle.shape.specs.Normals.{axisOf};
-ghost use Rattle.shape.specs.SpaceTest.{level, pattern, standing, without, inPlaneTest, lastSigns, crossingTest, spaceTest, pastNoEdge, segmentSpaceTest};
+ghost use Rattle.shape.specs.SpaceTest.{level, pattern, without, inPlaneTest, lastSigns, pastNoEdge, segmentSpaceTest};
 ghost use Rattle.exact.specs.Grid.{limit, Ready};
-ghost use Rattle.exact.specs.Vectors.{planar, spatial, Sized, minorSize};
+ghost use Rattle.exact.specs.Vectors.{planar, spatial, Sized, minorSize, normalIn};
 ghost use Rattle.plane.specs.Planes.{PlaneAt};
-ghost use Rattle.space.specs.Spaces.{SpaceAt, SizedSpace, IsNormal, placedAs, ofSpace, ofSpaces, toldStanding};
+ghost use Rattle.space.specs.Spaces.{SpaceAt, SizedSpace, IsNormal, ofSpace, ofSpaces, ofLists, Numbered, Stands, turnsIn, orderOf, placeBy, seconds, thirds, InOrder, lastSignsBy};
 
 // A triangle of space.
 pub struct SpaceTriangle {
     pub p: SpacePoint,
     pub q: SpacePoint,
     pub r: SpacePoint,
-}
-
-// How the corners of a triangle stand to the other's plane: all strictly on one side; all on it; or one alone on its side. Then so
-// many turns put that corner first, and the flag tells whether the other triangle's last two corners have to be swapped.
-pub enum Standing {
-    Beside,
-    Within,
-    Alone(u32, bool),
 }
 
 // The triangle that fills a list of nine numbers.
@@ -64,46 +57,50 @@ fn pattern_of(t: SpaceTriangle, u: SpaceTriangle, n: SpacePoint) -> u32
     9 * level_over(u.r, n, t.p) + 3 * level_over(u.r, n, t.q) + level_over(u.r, n, t.r)
 }
 
-// The standing that a pattern names. A digit is 0 for a corner below the plane, 1 on it, 2 above it, and the first corner's counts
-// nine; beside each arm stand its patterns, a sign for each corner.
-fn standing_of(pattern: u32) -> Standing
-    ensures { λ r. ⌜ toldStanding r ≡ standing pattern ⌝ }
+// The number of the standing that a pattern names: 0 beside, with all corners strictly on one side; 1 within, with all on the plane; or one corner is
+// alone on its side. Then it is 4 and the turns that put that corner first, and 4 more where the other triangle's last two corners have to be
+// swapped. A digit of the pattern is 0 for a corner below the plane, 1 on it, 2 above it, and the first corner's counts nine; beside each arm stands a
+// sign for each corner. Each pattern with a corner alone has an arm of its own, since the compiler makes a table of them so: numbers that stand side
+// by side in one arm become ranges, which it compares one after the other, and no processor guesses those branches.
+fn standing_of(pattern: u32) -> u32
+    ensures { λ r. ⌜ Stands pattern r ⌝ }
 {
     match pattern {
-        ..=0 | 26.. => Standing::Beside, // --- and +++
-        13..=13 => Standing::Within, // 000
-        9 | 18..=19 | 21..=22 => Standing::Alone(0, false), // 0-- +-- +-0 +0- +00
-        4..=5 | 7..=8 | 17 => Standing::Alone(0, true), // -00 -0+ -+0 -++ 0++
-        3 | 6 | 15..=16 => Standing::Alone(1, false), // -0- -+- 0+- 0+0
-        10..=11 | 20 | 23 => Standing::Alone(1, true), // 0-0 0-+ +-+ +0+
-        1..=2 | 14 => Standing::Alone(2, false), // --0 --+ 00+
-        _ => Standing::Alone(2, true), // 00- ++- ++0
+        ..=0 | 26.. => 0, // --- and +++
+        1 => 6, // --0
+        2 => 6, // --+
+        3 => 5, // -0-
+        4 => 8, // -00
+        5 => 8, // -0+
+        6 => 5, // -+-
+        7 => 8, // -+0
+        8 => 8, // -++
+        9 => 4, // 0--
+        10 => 9, // 0-0
+        11 => 9, // 0-+
+        12 => 10, // 00-
+        13..=13 => 1, // 000
+        14 => 6, // 00+
+        15 => 5, // 0+-
+        16 => 5, // 0+0
+        17 => 8, // 0++
+        18 => 4, // +--
+        19 => 4, // +-0
+        20 => 9, // +-+
+        21 => 4, // +0-
+        22 => 4, // +00
+        23 => 9, // +0+
+        24 => 10, // ++-
+        25 => 10, // ++0
     }
 }
 
-// The triangle with its corners turned so many times, and then the last two swapped or not.
-fn placed(t: SpaceTriangle, turns: u32, swap: bool) -> SpaceTriangle
-    ensures { λ r. ⌜ r ≡ placedAs turns swap t ⌝ }
+// The standing of t to the plane of u, whose normal is n, nine numbers each.
+pub fn standing_over(t: &[i32], u: &[i32], n: SpacePoint) -> u32
+    requires { ⌜ Ready 9 (now t) × Ready 9 (now u) × (spatial n ≡ normalIn (now u)) ⌝ }
+    ensures { λ r. ⌜ Stands (ofLists pattern (now (t .entry)) (now (u .entry))) r ⌝ }
 {
-    let p = t.p;
-    let q = t.q;
-    let r = t.r;
-    if turns == 0 {
-        if swap {
-            return SpaceTriangle { p: p, q: r, r: q };
-        }
-        return SpaceTriangle { p: p, q: q, r: r };
-    }
-    if turns == 1 {
-        if swap {
-            return SpaceTriangle { p: q, q: p, r: r };
-        }
-        return SpaceTriangle { p: q, q: r, r: p };
-    }
-    if swap {
-        return SpaceTriangle { p: r, q: q, r: p };
-    }
-    SpaceTriangle { p: r, q: p, r: q }
+    standing_of(pattern_of(space_triangle(t), space_triangle(u), n))
 }
 
 // ---- one plane
@@ -159,7 +156,7 @@ pub fn is_null(n: SpacePoint) -> bool
 }
 
 // Two triangles in the plane of the second, whose normal is n.
-fn meet_in_plane(t: SpaceTriangle, u: SpaceTriangle, n: SpacePoint) -> bool
+pub fn meet_in_plane(t: SpaceTriangle, u: SpaceTriangle, n: SpacePoint) -> bool
     requires { ⌜ SizedSpace limit t × SizedSpace limit u × IsNormal u n ⌝ }
     ensures { λ r. ⌜ r ≡ ofSpaces inPlaneTest t u ⌝ }
 {
@@ -167,43 +164,73 @@ fn meet_in_plane(t: SpaceTriangle, u: SpaceTriangle, n: SpacePoint) -> bool
     planes_meet(dropped(k, t), dropped(k, u))
 }
 
-// ---- two triangles
+// ---- two triangles that each have a corner alone
 
-// p1 and p2 are alone on the non-negative sides: the triangles meet where neither of the last two signs is above zero.
+// Where the second corner and the third stand in a triangle's list of nine numbers, by their order: its turns, and 4 more where the two are swapped.
+const SECOND: [usize; 8] = [3, 6, 0, 0, 6, 0, 3, 0];
+const THIRD: [usize; 8] = [6, 0, 3, 0, 3, 6, 0, 0];
+
+// The order of the corners of a triangle whose standing is s and the other's r.
+fn order_of(s: u32, r: u32) -> usize
+    requires { ⌜ Numbered s × Numbered r ⌝ }
+    ensures { λ k. ⌜ (k ≡ orderOf s r) × (k < 8) ⌝ }
+{
+    (s % 4 + r / 8 * 4) as usize
+}
+
+// The places of its corners in that order.
+fn first_place(s: u32) -> usize
+    requires { ⌜ Numbered s ⌝ }
+    ensures { λ k. ⌜ (k ≡ 3 * turnsIn s) × (k ≤ 6) ⌝ }
+{
+    (3 * (s % 4)) as usize
+}
+
+fn second_place(s: u32, r: u32) -> usize
+    requires { ⌜ Numbered s × Numbered r ⌝ }
+    ensures { λ k. ⌜ (k ≡ placeBy seconds s r) × (k ≤ 6) ⌝ }
+{
+    let order = order_of(s, r);
+    SECOND[order]
+}
+
+fn third_place(s: u32, r: u32) -> usize
+    requires { ⌜ Numbered s × Numbered r ⌝ }
+    ensures { λ k. ⌜ (k ≡ placeBy thirds s r) × (k ≤ 6) ⌝ }
+{
+    let order = order_of(s, r);
+    THIRD[order]
+}
+
+// The triangle of a list with its corners in that order.
+fn in_order(numbers: &[i32], s: u32, r: u32) -> SpaceTriangle
+    requires { ⌜ Ready 9 (now numbers) × Numbered s × Numbered r ⌝ }
+    ensures { λ t. ⌜ InOrder s r (now (numbers .entry)) t ⌝ }
+{
+    SpaceTriangle {
+        p: space_point(numbers, first_place(s)),
+        q: space_point(numbers, second_place(s, r)),
+        r: space_point(numbers, third_place(s, r)),
+    }
+}
+
+// p1 and p2 are alone on the non-negative sides: the triangles meet where neither of the last two signs is above zero. Both are found before either is
+// asked, which spares a branch that no processor guesses.
 fn last_signs(t: SpaceTriangle, u: SpaceTriangle) -> bool
     requires { ⌜ SizedSpace limit t × SizedSpace limit u ⌝ }
     ensures { λ r. ⌜ r ≡ ofSpaces lastSigns t u ⌝ }
 {
-    if level_at(t.p, t.q, u.p, u.q) == 2 {
-        return false;
-    }
-    level_at(t.p, t.r, u.r, u.p) != 2
+    let one = level_at(t.p, t.q, u.p, u.q);
+    let two = level_at(t.p, t.r, u.r, u.p);
+    (one != 2) & (two != 2)
 }
 
-// A corner of t, whose normal is m, is alone, as `turns` and `swap` tell: the standing of u, and the last signs.
-fn crossing(t: SpaceTriangle, m: SpacePoint, u: SpaceTriangle, turns: u32, swap: bool) -> bool
-    requires { ⌜ SizedSpace limit t × SizedSpace limit u × IsNormal t m ⌝ }
-    ensures { λ r. ⌜ r ≡ ofSpaces crossingTest t u turns swap ⌝ }
+// Whether two triangles, nine numbers each, have a point in common, where s is the standing of t and r that of u, and each has a corner alone.
+pub fn crossing(t: &[i32], s: u32, u: &[i32], r: u32) -> bool
+    requires { ⌜ Ready 9 (now t) × Ready 9 (now u) × Numbered s × Numbered r ⌝ }
+    ensures { λ v. ⌜ v ≡ lastSignsBy s r (now (t .entry)) (now (u .entry)) ⌝ }
 {
-    match standing_of(pattern_of(u, t, m)) {
-        Standing::Beside => false,
-        Standing::Within => meet_in_plane(u, t, m),
-        Standing::Alone(other_turns, other_swap) => {
-            last_signs(placed(t, turns, other_swap), placed(u, other_turns, swap))
-        }
-    }
-}
-
-// Whether two triangles that are not flat, whose normals are m and n, have a point in common.
-pub fn spaces_meet(t: SpaceTriangle, m: SpacePoint, u: SpaceTriangle, n: SpacePoint) -> bool
-    requires { ⌜ SizedSpace limit t × SizedSpace limit u × IsNormal t m × IsNormal u n ⌝ }
-    ensures { λ r. ⌜ r ≡ ofSpaces spaceTest t u ⌝ }
-{
-    match standing_of(pattern_of(t, u, n)) {
-        Standing::Beside => false,
-        Standing::Within => meet_in_plane(t, u, n),
-        Standing::Alone(turns, swap) => crossing(t, m, u, turns, swap),
-    }
+    last_signs(in_order(t, s, r), in_order(u, r, s))
 }
 
 // ---- a segment and a triangle

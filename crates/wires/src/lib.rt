@@ -4,5 +4,5 @@
 mod segments;
 mod triangles;
 
-pub use triangles::any_triangles_meet;
+pub use triangles::meet_by_standing;
 pub use triangles::segment_meets_any;

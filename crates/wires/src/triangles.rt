@@ -2,14 +2,18 @@
 use crate::segments::segments_meet;
 use exact::SpacePoint;
 use space::SpaceTriangle;
+use space::crossing;
 use space::is_null;
+use space::meet_in_plane;
 use space::segment_meets_space;
-use space::spaces_meet;
+use space::space_triangle;
+use space::standing_over;
 ghost use mathlib.Core.Path.{_≡_};
-ghost use Rattle.shape.specs.WireTest.{segmentsTest, eitherEdge, segmentTriangleTest, trianglesTest};
-ghost use Rattle.exact.specs.Grid.{limit};
-ghost use Rattle.exact.specs.Vectors.{spatial, Sized};
-ghost use Rattle.space.specs.Spaces.{SizedSpace, IsNormal, ofSpace, ofSpaces};
+ghost use Rattle.shape.specs.SpaceTest.{pattern};
+ghost use Rattle.shape.specs.WireTest.{segmentsTest, eitherEdge, segmentTriangleTest, closeTest, trianglesTest};
+ghost use Rattle.exact.specs.Grid.{limit, Ready};
+ghost use Rattle.exact.specs.Vectors.{spatial, Sized, normalIn};
+ghost use Rattle.space.specs.Spaces.{SizedSpace, IsNormal, ofSpace, ofSpaces, ofLists, Stands};
 ghost use Rattle.wires.specs.Wires.{edgeMeets};
 
 // Whether one of two edges of a triangle, which are the whole of it where it is flat, meets a segment.
@@ -45,10 +49,10 @@ fn edge_meets(t: SpaceTriangle, u: SpaceTriangle, n: SpacePoint) -> bool
     segment_meets_any(t.q, t.r, u, n)
 }
 
-// Whether two triangles, whose normals are m and n, have a point in common.
-pub fn any_triangles_meet(t: SpaceTriangle, m: SpacePoint, u: SpaceTriangle, n: SpacePoint) -> bool
+// Whether two triangles, whose normals are m and n, have a point in common, where the first is in the plane of the second, or one is flat.
+fn close_meet(t: SpaceTriangle, m: SpacePoint, u: SpaceTriangle, n: SpacePoint) -> bool
     requires { ⌜ SizedSpace limit t × SizedSpace limit u × IsNormal t m × IsNormal u n ⌝ }
-    ensures { λ r. ⌜ r ≡ ofSpaces trianglesTest t u ⌝ }
+    ensures { λ r. ⌜ r ≡ ofSpaces closeTest t u ⌝ }
 {
     if is_null(m) {
         return edge_meets(t, u, n);
@@ -56,5 +60,24 @@ pub fn any_triangles_meet(t: SpaceTriangle, m: SpacePoint, u: SpaceTriangle, n: 
     if is_null(n) {
         return edge_meets(u, t, m);
     }
-    spaces_meet(t, m, u, n)
+    meet_in_plane(t, u, n)
+}
+
+// Whether two triangles, nine numbers each, have a point in common, where m and n are their normals and s is the standing of t to the plane of u, and
+// not beside it. Every point is on the plane of a flat one, whose normal is zero, so that nothing asks for flat ones before the standings do.
+pub fn meet_by_standing(t: &[i32], s: u32, m: SpacePoint, u: &[i32], n: SpacePoint) -> bool
+    requires { ⌜ Ready 9 (now t) × Ready 9 (now u) × (spatial m ≡ normalIn (now t)) × (spatial n ≡ normalIn (now u)) × Stands (ofLists pattern (now t) (now u)) s × (s ≡ 0 → ⊥) ⌝ }
+    ensures { λ v. ⌜ v ≡ ofLists trianglesTest (now (t .entry)) (now (u .entry)) ⌝ }
+{
+    if s == 1 {
+        return close_meet(space_triangle(t), m, space_triangle(u), n);
+    }
+    let r = standing_over(u, t, m);
+    if r == 0 {
+        return false;
+    }
+    if r == 1 {
+        return close_meet(space_triangle(u), n, space_triangle(t), m);
+    }
+    crossing(t, s, u, r)
 }
