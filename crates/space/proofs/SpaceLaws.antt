@@ -57,10 +57,24 @@ past-table p none = by-order (ℕ-discrete p 26)
 pub stands : {p s k : ℕ} → p ≡ k → toldStanding s ≡ standing k → Numbered s → Stands p s
 stands e told number = record { told = told ∙ sym (ap standing e); number = number }
 
--- The verdict by the standing that code found: its number is s.
-pub by-standing : {p s : ℕ} (close : Bool) (crossing : ℕ → Bool → Bool) {answer : Bool} →
-    Stands p s → answer ≡ byStanding (toldStanding s) close crossing → answer ≡ byStanding (standing p) close crossing
-by-standing close crossing h e = e ∙ ap (λ (st : Standing). byStanding st close crossing) (h .told)
+-- The verdict by the standing that code found, by its number.
+module _ {p s : ℕ} (found : Stands p s) (close : Bool) (crossing : ℕ → Bool → Bool) {answer : Bool} where
+  as-told : answer ≡ byStanding (toldStanding s) close crossing → answer ≡ byStanding (standing p) close crossing
+  as-told e = e ∙ ap (λ (st : Standing). byStanding st close crossing) (found .told)
+
+  pub if-beside : s ≡ 0 → answer ≡ false → answer ≡ byStanding (standing p) close crossing
+  if-beside e a = as-told (a ∙ ap (λ (n : ℕ). byStanding (toldStanding n) close crossing) (sym e))
+
+  pub if-within : s ≡ 1 → answer ≡ close → answer ≡ byStanding (standing p) close crossing
+  if-within e a = as-told (a ∙ ap (λ (n : ℕ). byStanding (toldStanding n) close crossing) (sym e))
+
+  pub if-alone : (s ≡ 0 → ⊥) → (s ≡ 1 → ⊥) → answer ≡ crossing (turnsIn s) (swapIn s) → answer ≡ byStanding (standing p) close crossing
+  if-alone not-0 not-1 a = as-told (a ∙ numbered s not-0 not-1)
+    where
+      numbered : (n : ℕ) → (n ≡ 0 → ⊥) → (n ≡ 1 → ⊥) → crossing (turnsIn n) (swapIn n) ≡ byStanding (toldStanding n) close crossing
+      numbered zero h k = absurd (h refl)
+      numbered (suc zero) h k = absurd (k refl)
+      numbered (suc (suc n)) h k = refl
 
 -- ---- the corners of a triangle that is known to stand at a, b, c
 module _ {a b c : Point} {t : SpaceTriangle} (at : SpaceAt a b c t) where

@@ -1,9 +1,9 @@
--- `wires::triangles::any_triangles_meet` meets its contract: the normals tell which triangles are flat. Assumes nothing.
+-- `wires::triangles::close_meet` meets its contract: the normals tell which triangles are flat. Assumes nothing.
 use borrow.Author.Needs.{needs}
 use Rattle.exact.proofs.Branches.{if-taken, if-left}
 use Rattle.space.proofs.SpaceLaws.{flat-by-normal}
-use Rattle.wires.proofs.triangles.any_triangles_meet.Statement.{statement}
-use Rattle.wires.proofs.triangles.any_triangles_meet.Tie as tie
+use Rattle.wires.proofs.triangles.close_meet.Statement.{statement}
+use Rattle.wires.proofs.triangles.close_meet.Tie as tie
 
 is-null-requires : tie.Need-is-null-requires
 is-null-requires c κs = c .pre .2 .small
@@ -35,8 +35,8 @@ returns-2 c =
     if-left _ _ (flat-by-normal (p .args .t) (p .pre .2) (t1 .before .is-null .ensures)) (t1 .if1 .left)
     (if-taken _ _ (flat-by-normal (p .args .u) (p .pre .3) (t2 .before .is-null2 .ensures)) (t2 .if2 .taken) (c .edge-meets2 .ensures))
 
-spaces-meet-requires : tie.Need-spaces-meet-requires
-spaces-meet-requires c κs = search needs
+meet-in-plane-requires : tie.Need-meet-in-plane-requires
+meet-in-plane-requires c κs = search needs
 
 returns-3 : tie.Need-returns-3
 returns-3 c =
@@ -44,10 +44,10 @@ returns-3 c =
     let t1 = t2 .before .before in
     let p = t1 .before .before in
     if-left _ _ (flat-by-normal (p .args .t) (p .pre .2) (t1 .before .is-null .ensures)) (t1 .if1 .left)
-    (if-left _ _ (flat-by-normal (p .args .u) (p .pre .3) (t2 .before .is-null2 .ensures)) (t2 .if2 .left) (c .spaces-meet .ensures))
+    (if-left _ _ (flat-by-normal (p .args .u) (p .pre .3) (t2 .before .is-null2 .ensures)) (t2 .if2 .left) (c .meet-in-plane .ensures))
 
-pub any-triangles-meet-spec : {M : Type 1} → statement M
-any-triangles-meet-spec =
+pub close-meet-spec : {M : Type 1} → statement M
+close-meet-spec =
     tie.close
     (tie.spec
     is-null-requires
@@ -56,5 +56,5 @@ any-triangles-meet-spec =
     is-null-requires-2
     edge-meets-requires-2
     returns-2
-    spaces-meet-requires
+    meet-in-plane-requires
     returns-3)
