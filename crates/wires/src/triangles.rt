@@ -50,7 +50,7 @@ fn edge_meets(t: SpaceTriangle, u: SpaceTriangle, n: SpacePoint) -> bool
 }
 
 // Whether two triangles, whose normals are m and n, have a point in common, where the first is in the plane of the second, or one is flat.
-fn close_meet(t: SpaceTriangle, m: SpacePoint, u: SpaceTriangle, n: SpacePoint) -> bool
+fn close_triangles_meet(t: SpaceTriangle, m: SpacePoint, u: SpaceTriangle, n: SpacePoint) -> bool
     requires { ⌜ SizedSpace limit t × SizedSpace limit u × IsNormal t m × IsNormal u n ⌝ }
     ensures { λ r. ⌜ r ≡ ofSpaces closeTest t u ⌝ }
 {
@@ -63,6 +63,14 @@ fn close_meet(t: SpaceTriangle, m: SpacePoint, u: SpaceTriangle, n: SpacePoint) 
     meet_in_plane(t, u, n)
 }
 
+// The same of two lists of nine numbers.
+fn close_meet(t: &[i32], m: SpacePoint, u: &[i32], n: SpacePoint) -> bool
+    requires { ⌜ Ready 9 (now t) × Ready 9 (now u) × (spatial m ≡ normalIn (now t)) × (spatial n ≡ normalIn (now u)) ⌝ }
+    ensures { λ r. ⌜ r ≡ ofLists closeTest (now (t .entry)) (now (u .entry)) ⌝ }
+{
+    close_triangles_meet(space_triangle(t), m, space_triangle(u), n)
+}
+
 // Whether two triangles, nine numbers each, have a point in common, where m and n are their normals and s is the standing of t to the plane of u, and
 // not beside it. Every point is on the plane of a flat one, whose normal is zero, so that nothing asks for flat ones before the standings do.
 pub fn meet_by_standing(t: &[i32], s: u32, m: SpacePoint, u: &[i32], n: SpacePoint) -> bool
@@ -70,14 +78,14 @@ pub fn meet_by_standing(t: &[i32], s: u32, m: SpacePoint, u: &[i32], n: SpacePoi
     ensures { λ v. ⌜ v ≡ ofLists trianglesTest (now (t .entry)) (now (u .entry)) ⌝ }
 {
     if s == 1 {
-        return close_meet(space_triangle(t), m, space_triangle(u), n);
+        return close_meet(t, m, u, n);
     }
     let r = standing_over(u, t, m);
     if r == 0 {
         return false;
     }
     if r == 1 {
-        return close_meet(space_triangle(u), n, space_triangle(t), m);
+        return close_meet(u, n, t, m);
     }
     crossing(t, s, u, r)
 }

@@ -1,60 +1,29 @@
--- `wires::triangles::close_meet` meets its contract: the normals tell which triangles are flat. Assumes nothing.
+-- `wires::triangles::close_meet` meets its contract: the triangles are those of the lists. Assumes nothing.
 use borrow.Author.Needs.{needs}
-use Rattle.exact.proofs.Branches.{if-taken, if-left}
-use Rattle.space.proofs.SpaceLaws.{flat-by-normal}
+use mathlib.Core.Path.{_∙_}
+use Rattle.shape.specs.WireTest.{closeTest}
+use Rattle.space.proofs.SpaceLaws.{sized-triangle, normal-in, spaces-at}
 use Rattle.wires.proofs.triangles.close_meet.Statement.{statement}
 use Rattle.wires.proofs.triangles.close_meet.Tie as tie
 
-is-null-requires : tie.Need-is-null-requires
-is-null-requires c κs = c .pre .2 .small
+space-triangle-requires : tie.Need-space-triangle-requires
+space-triangle-requires c κs = search needs
 
-edge-meets-requires : tie.Need-edge-meets-requires
-edge-meets-requires c κs =
+space-triangle-requires-2 : tie.Need-space-triangle-requires-2
+space-triangle-requires-2 c κs = search needs
+
+close-triangles-meet-requires : tie.Need-close-triangles-meet-requires
+close-triangles-meet-requires c κs =
     let p = c .before .before .pre in
-    (p .0, p .1, p .3)
+    let t = c .before .space-triangle .ensures in
+    let u = c .space-triangle2 .ensures in
+    (sized-triangle (p .0) t, sized-triangle (p .1) u, normal-in (p .0) t (p .2), normal-in (p .1) u (p .3))
 
 returns : tie.Need-returns
 returns c =
-    let t = c .before in
-    let p = t .before .before in
-    if-taken _ _ (flat-by-normal (p .args .t) (p .pre .2) (t .before .is-null .ensures)) (t .if1 .taken) (c .edge-meets .ensures)
-
-is-null-requires-2 : tie.Need-is-null-requires-2
-is-null-requires-2 c κs = c .before .before .pre .3 .small
-
-edge-meets-requires-2 : tie.Need-edge-meets-requires-2
-edge-meets-requires-2 c κs =
-    let p = c .before .before .before .before .pre in
-    (p .1, p .0, p .2)
-
-returns-2 : tie.Need-returns-2
-returns-2 c =
-    let t2 = c .before in
-    let t1 = t2 .before .before in
-    let p = t1 .before .before in
-    if-left _ _ (flat-by-normal (p .args .t) (p .pre .2) (t1 .before .is-null .ensures)) (t1 .if1 .left)
-    (if-taken _ _ (flat-by-normal (p .args .u) (p .pre .3) (t2 .before .is-null2 .ensures)) (t2 .if2 .taken) (c .edge-meets2 .ensures))
-
-meet-in-plane-requires : tie.Need-meet-in-plane-requires
-meet-in-plane-requires c κs = search needs
-
-returns-3 : tie.Need-returns-3
-returns-3 c =
-    let t2 = c .before in
-    let t1 = t2 .before .before in
-    let p = t1 .before .before in
-    if-left _ _ (flat-by-normal (p .args .t) (p .pre .2) (t1 .before .is-null .ensures)) (t1 .if1 .left)
-    (if-left _ _ (flat-by-normal (p .args .u) (p .pre .3) (t2 .before .is-null2 .ensures)) (t2 .if2 .left) (c .meet-in-plane .ensures))
+    let u = c .before in
+    c .close-triangles-meet .ensures ∙ spaces-at (u .before .space-triangle .ensures) (u .space-triangle2 .ensures) closeTest
 
 pub close-meet-spec : {M : Type 1} → statement M
 close-meet-spec =
-    tie.close
-    (tie.spec
-    is-null-requires
-    edge-meets-requires
-    returns
-    is-null-requires-2
-    edge-meets-requires-2
-    returns-2
-    meet-in-plane-requires
-    returns-3)
+    tie.close (tie.spec space-triangle-requires space-triangle-requires-2 close-triangles-meet-requires returns)
