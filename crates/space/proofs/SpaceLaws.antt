@@ -3,7 +3,7 @@
 use mathlib.Core.Path.{_≡_, refl, sym, _∙_, ap, subst}
 use mathlib.Core.Bool.{Bool, true, false, not, _&&_, cond}
 use mathlib.Core.List.{List, [], _∷_}
-use Prim.Native.Nat.{ℕ, zero, suc, _+_, _*_, _≤_}
+use Prim.Native.Nat.{ℕ, zero, suc, _+_, _*_, _/_, _%_, _≤_}
 use native.Mathlib.Omega.{arith}
 use native.Mathlib.Decide.{ℕ-discrete}
 use lib.ListN.{length, getD}
@@ -23,7 +23,7 @@ use Rattle.shape.proofs.Dropping.{axis-says}
 use Rattle.exact.specs.Grid.{limit, Ready}
 use Rattle.exact.specs.Vectors.{spatial, Sized, minorSize, normalIn}
 use Rattle.plane.specs.Planes.{PlaneAt, SizedTriangle}
-use Rattle.space.specs.Spaces.{SpaceAt, SizedSpace, IsNormal, ofSpace, ofSpaces, ofList, turnsIn, swapIn, toldStanding, Numbered, Stands, orderOf, seconds, thirds, placeBy, InOrder}
+use Rattle.space.specs.Spaces.{SpaceAt, SizedSpace, IsNormal, ofSpace, ofSpaces, ofList, turnsIn, swapIn, toldStanding, Numbered, Stands, firstPlace, secondPlace, thirdPlace, InOrder}
 use Rattle.plane.specs.declared.meeting.PlaneTriangle.{PlaneTriangle}
 use Rattle.exact.specs.declared.determinant.SpacePoint.{SpacePoint}
 use Rattle.space.specs.declared.meeting.SpaceTriangle.{SpaceTriangle}
@@ -121,39 +121,37 @@ module _ (t : SpaceTriangle) {n : SpacePoint} (normal : IsNormal t n) where
       ∙ says-fixed (axis-says (spatial (t .p)) (spatial (t .q)) (spatial (t .r))) (is-flat 3 (spatial (t .p) ∷ spatial (t .q) ∷ spatial (t .r) ∷ []))
 
 -- ---- a new order of the corners
--- The places that the tables tell are those of the new order, and they are in the list.
-pub record Places (turns order : ℕ) (swap : Bool) : Type 1 where
-  pub first-in : 3 * turns ≤ 6
-  pub second-in : getD seconds order 0 ≤ 6
-  pub third-in : getD thirds order 0 ≤ 6
-  pub in-order : {C X : Type 0} (corner : ℕ → C) (f : C → C → C → X) →
-      f (corner (3 * turns)) (corner (getD seconds order 0)) (corner (getD thirds order 0)) ≡ placed turns swap f (corner 0) (corner 3) (corner 6)
-
-pub places : (s r : ℕ) → Numbered s → Numbered r → Places (turnsIn s) (orderOf s r) (swapIn r)
-places s r hs hr = by-swap (swapIn r) refl
+-- What stands at the places of the new order, in each of the six orders.
+pub in-places : (s r : ℕ) → Numbered s → Numbered r → {C X : Type 0} (corner : ℕ → C) (f : C → C → C → X) →
+    f (corner (firstPlace s)) (corner (secondPlace s r)) (corner (thirdPlace s r)) ≡ placed (turnsIn s) (swapIn r) f (corner 0) (corner 3) (corner 6)
+in-places s r hs hr corner f = by-swap (swapIn r) refl
   where
-    each : (turns : ℕ) (swap : Bool) → turns ≤ 2 → Places turns (turns + boolByte swap * 4) swap
-    each zero false h = record { first-in = omega arith; second-in = omega arith; third-in = omega arith; in-order = λ corner f. refl }
-    each zero true h = record { first-in = omega arith; second-in = omega arith; third-in = omega arith; in-order = λ corner f. refl }
-    each (suc zero) false h = record { first-in = omega arith; second-in = omega arith; third-in = omega arith; in-order = λ corner f. refl }
-    each (suc zero) true h = record { first-in = omega arith; second-in = omega arith; third-in = omega arith; in-order = λ corner f. refl }
-    each (suc (suc zero)) false h = record { first-in = omega arith; second-in = omega arith; third-in = omega arith; in-order = λ corner f. refl }
-    each (suc (suc zero)) true h = record { first-in = omega arith; second-in = omega arith; third-in = omega arith; in-order = λ corner f. refl }
+    At : (turns bit : ℕ) → Bool → Type 0
+    At turns bit swap =
+        f (corner (3 * turns)) (corner (3 * ((turns + 1 + bit) % 3))) (corner (3 * ((turns + 2 + 2 * bit) % 3)))
+        ≡ placed turns swap f (corner 0) (corner 3) (corner 6)
+
+    each : (turns : ℕ) (swap : Bool) → turns ≤ 2 → At turns (boolByte swap) swap
+    each zero false h = refl
+    each zero true h = refl
+    each (suc zero) false h = refl
+    each (suc zero) true h = refl
+    each (suc (suc zero)) false h = refl
+    each (suc (suc zero)) true h = refl
     each (suc (suc (suc turns))) swap h = absurd (omega arith)
 
-    by-swap : (swap : Bool) → swapIn r ≡ swap → Places (turnsIn s) (orderOf s r) swap
-    by-swap false e =
-        subst (λ (k : ℕ). Places (turnsIn s) k false) (omega (arith, ltb-false 7 r e, hr .small)) (each (turnsIn s) false (hs .few))
-    by-swap true e = subst (λ (k : ℕ). Places (turnsIn s) k true) (omega (arith, ltb-true 7 r e, hr .small)) (each (turnsIn s) true (hs .few))
+    by-swap : (swap : Bool) → swapIn r ≡ swap → At (turnsIn s) (r / 8) swap
+    by-swap false e = subst (λ (bit : ℕ). At (turnsIn s) bit false) (omega (arith, ltb-false 7 r e)) (each (turnsIn s) false (hs .few))
+    by-swap true e = subst (λ (bit : ℕ). At (turnsIn s) bit true) (omega (arith, ltb-true 7 r e, hr .small)) (each (turnsIn s) true (hs .few))
 
 -- A triangle that was read in that order.
 module _ (s r : ℕ) (l : List ℤ) {t : SpaceTriangle} (at : InOrder s r l t) where
   pub sized-in-order : Ready 9 l → SizedSpace limit t
   sized-in-order ready =
-      space-size-at at (sized-point ready 3 (3 * turnsIn s) refl) (sized-point ready 3 (placeBy seconds s r) refl) (sized-point ready 3 (placeBy thirds s r) refl)
+      space-size-at at (sized-point ready 3 (firstPlace s) refl) (sized-point ready 3 (secondPlace s r) refl) (sized-point ready 3 (thirdPlace s r) refl)
 
   pub of-in-order : Numbered s → Numbered r → {X : Type 0} (f : Point → Point → Point → X) → ofSpace f t ≡ ofList (placed (turnsIn s) (swapIn r) f) l
-  of-in-order hs hr f = space-at at f ∙ places s r hs hr .in-order (λ k. pointAt 3 k l) f
+  of-in-order hs hr f = space-at at f ∙ in-places s r hs hr (λ k. pointAt 3 k l) f
 
 -- The answer is that neither of two tests is passed.
 pub neither : {v w t u : Bool} → v ≡ t → w ≡ u → not v && not w ≡ cond t false (cond u false true)

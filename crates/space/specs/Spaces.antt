@@ -2,10 +2,9 @@
 -- (specs/SpaceTest.antt) on their corners.
 use mathlib.Core.Path.{_≡_}
 use mathlib.Core.Bool.{Bool}
-use mathlib.Core.List.{List, [], _∷_}
+use mathlib.Core.List.{List}
 use Prim.Native.Nat.{ℕ, zero, suc, _+_, _*_, _/_, _%_, _≤_}
 use lib.Dec.{ltb}
-use lib.ListN.{getD}
 use lib.IntN.{ℤ}
 use Rattle.shape.specs.Points.{Point, pointAt}
 use Rattle.shape.specs.Normals.{normalOf}
@@ -69,23 +68,20 @@ pub record Stands (p s : ℕ) : Type 0 where
   pub number : Numbered s
 
 -- ---- the corners in their new orders
--- The order of a triangle's corners whose standing is s and the other's r, and the places in its list where its second and its third stand by it: the
--- code's tables.
-abbrev pub orderOf : (s r : ℕ) → ℕ
-orderOf s r = turnsIn s + r / 8 * 4
+-- The places in a triangle's list where its corners stand in the order that is asked for, where its standing is s and the other's r: a corner later for
+-- each turn, and the last two swapped where r / 8 is 1 and not 0.
+abbrev pub firstPlace : ℕ → ℕ
+firstPlace s = 3 * turnsIn s
 
-abbrev pub seconds : List ℕ
-seconds = 3 ∷ 6 ∷ 0 ∷ 0 ∷ 6 ∷ 0 ∷ 3 ∷ 0 ∷ []
+abbrev pub secondPlace : (s r : ℕ) → ℕ
+secondPlace s r = 3 * ((turnsIn s + 1 + r / 8) % 3)
 
-abbrev pub thirds : List ℕ
-thirds = 6 ∷ 0 ∷ 3 ∷ 0 ∷ 3 ∷ 6 ∷ 0 ∷ 0 ∷ []
-
-abbrev pub placeBy : List ℕ → (s r : ℕ) → ℕ
-placeBy places s r = getD places (orderOf s r) 0
+abbrev pub thirdPlace : (s r : ℕ) → ℕ
+thirdPlace s r = 3 * ((turnsIn s + 2 + 2 * (r / 8)) % 3)
 
 -- The corners of t are those of the list in that order.
 abbrev pub InOrder : (s r : ℕ) → List ℤ → SpaceTriangle → Type 0
-InOrder s r l t = SpaceAt (pointAt 3 (3 * turnsIn s) l) (pointAt 3 (placeBy seconds s r) l) (pointAt 3 (placeBy thirds s r) l) t
+InOrder s r l t = SpaceAt (pointAt 3 (firstPlace s) l) (pointAt 3 (secondPlace s r) l) (pointAt 3 (thirdPlace s r) l) t
 
 -- The last signs of both triangles in the orders that their standings ask for.
 abbrev pub lastSignsBy : (s r : ℕ) → List ℤ → List ℤ → Bool

@@ -1,6 +1,6 @@
-// The tests in space: two triangles, and a segment and a triangle, of the grid, where no triangle is flat. The crate is the inside of the calls and
-// offers none itself: its functions have a `requires`, since what is off the grid is refused before one of them is asked. Crate `wires` takes the flat
-// ones.
+// The tests in space on the grid: how a triangle stands to another's plane, two triangles in one plane, two that each have a corner alone, and a segment
+// and a triangle that is not flat. Crate `wires` puts them together, with the shapes that may be flat. The crate is the inside of the calls and offers
+// none itself: its functions have a `requires`, since what is off the grid is refused before one of them is asked.
 mod meeting;
 
 pub use meeting::SpaceTriangle;

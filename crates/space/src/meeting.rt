@@ -10,7 +10,7 @@ use plane::PlaneTriangle;
 use plane::planes_meet;
 use plane::segment_meets_plane;
 ghost use mathlib.Core.Path.{_≡_};
-ghost use Prim.Native.Nat.{_*_, _<_, _≤_};
+ghost use Prim.Native.Nat.{_≤_};
 ghost use lib.Dec.{eqb};
 ghost use Rattle.shape.specs.Points.{pointAt};
 ghost use Rattle.shape.specs.Normals.{axisOf};
@@ -18,7 +18,7 @@ ghost use Rattle.shape.specs.SpaceTest.{level, pattern, without, inPlaneTest, l
 ghost use Rattle.exact.specs.Grid.{limit, Ready};
 ghost use Rattle.exact.specs.Vectors.{planar, spatial, Sized, minorSize, normalIn};
 ghost use Rattle.plane.specs.Planes.{PlaneAt};
-ghost use Rattle.space.specs.Spaces.{SpaceAt, SizedSpace, IsNormal, ofSpace, ofSpaces, ofLists, Numbered, Stands, turnsIn, orderOf, placeBy, seconds, thirds, InOrder, lastSignsBy};
+ghost use Rattle.space.specs.Spaces.{SpaceAt, SizedSpace, IsNormal, ofSpace, ofSpaces, ofLists, Numbered, Stands, firstPlace, secondPlace, thirdPlace, InOrder, lastSignsBy};
 
 // A triangle of space.
 pub struct SpaceTriangle {
@@ -166,40 +166,27 @@ pub fn meet_in_plane(t: SpaceTriangle, u: SpaceTriangle, n: SpacePoint) -> bool
 
 // ---- two triangles that each have a corner alone
 
-// Where the second corner and the third stand in a triangle's list of nine numbers, by their order: its turns, and 4 more where the two are swapped.
-const SECOND: [usize; 8] = [3, 6, 0, 0, 6, 0, 3, 0];
-const THIRD: [usize; 8] = [6, 0, 3, 0, 3, 6, 0, 0];
-
-// The order of the corners of a triangle whose standing is s and the other's r.
-fn order_of(s: u32, r: u32) -> usize
-    requires { ⌜ Numbered s × Numbered r ⌝ }
-    ensures { λ k. ⌜ (k ≡ orderOf s r) × (k < 8) ⌝ }
-{
-    (s % 4 + r / 8 * 4) as usize
-}
-
-// The places of its corners in that order.
+// The places in a triangle's list of nine numbers where its corners stand in the order that is asked for: its standing s tells the turns, and the
+// standing r of the other whether the last two are swapped. They are computed: the compiler would build a table anew for each question.
 fn first_place(s: u32) -> usize
     requires { ⌜ Numbered s ⌝ }
-    ensures { λ k. ⌜ (k ≡ 3 * turnsIn s) × (k ≤ 6) ⌝ }
+    ensures { λ k. ⌜ (k ≡ firstPlace s) × (k ≤ 6) ⌝ }
 {
     (3 * (s % 4)) as usize
 }
 
 fn second_place(s: u32, r: u32) -> usize
     requires { ⌜ Numbered s × Numbered r ⌝ }
-    ensures { λ k. ⌜ (k ≡ placeBy seconds s r) × (k ≤ 6) ⌝ }
+    ensures { λ k. ⌜ (k ≡ secondPlace s r) × (k ≤ 6) ⌝ }
 {
-    let order = order_of(s, r);
-    SECOND[order]
+    (3 * ((s % 4 + 1 + r / 8) % 3)) as usize
 }
 
 fn third_place(s: u32, r: u32) -> usize
     requires { ⌜ Numbered s × Numbered r ⌝ }
-    ensures { λ k. ⌜ (k ≡ placeBy thirds s r) × (k ≤ 6) ⌝ }
+    ensures { λ k. ⌜ (k ≡ thirdPlace s r) × (k ≤ 6) ⌝ }
 {
-    let order = order_of(s, r);
-    THIRD[order]
+    (3 * ((s % 4 + 2 + 2 * (r / 8)) % 3)) as usize
 }
 
 // The triangle of a list with its corners in that order.
