@@ -57,7 +57,7 @@ toldStanding zero = beside
 toldStanding (suc zero) = within
 toldStanding (suc (suc n)) = alone (turnsIn (suc (suc n))) (swapIn (suc (suc n)))
 
--- The turns are three, and the number is one of those of a standing.
+-- A number that code gives to a standing: two turns at most, and 10 at most.
 pub record Numbered (s : ℕ) : Type 0 where
   pub few : turnsIn s ≤ 2
   pub small : s ≤ 10

@@ -1,5 +1,4 @@
 -- `space::meeting::in_order` meets its contract: each corner is read at its place. Assumes nothing.
-use borrow.Author.Needs.{needs}
 use native.Mathlib.Omega.{arith}
 use mathlib.Core.Path.{ap, _∙_}
 use Prim.Native.Nat.{ℕ}
