@@ -12,27 +12,24 @@ use Rattle.checks.specs.Told.{toldRefusal}
 use Rattle.checks.specs.declared.answer.Refusal.{Refusal}
 use Rattle.checks.proofs.AnswerLaws.{served-not-refused}
 use Rattle.boxes.specs.Triangles.{triangles}
-use Rattle.deciding.specs.Words.{onesBelow, VerdictsBelow}
+use Rattle.deciding.specs.Words.{VerdictsBelow}
 use Rattle.listing.specs.Pairs.{Pair, gathered, pairsOf, twoEach}
 use Rattle.listing.specs.Rules.{inputChecks, roomFor, outcome, afterwards, ListRule}
 use Rattle.listing.specs.Writing.{toldBy, Wrote, listed, Found}
 use Rattle.listing.proofs.Filling.{free-part, put-back}
 use Rattle.listing.proofs.Gathering.{length-two-each}
 use Rattle.listing.proofs.ListChecks.{room-fine, no-room-refused}
-use Rattle.listing.proofs.Telling.{length-told, kept, all-told, kept-right}
+use Rattle.listing.proofs.Telling.{kept, all-told, kept-right}
 
 -- ---- the pairs that n words tell, as many as were found, and the buffer
-module _ (m : ℕ) (words : List ℕ) (n : ℕ) (buffer : List ℕ) (start found : ℕ) (e : found ≡ onesBelow m words n) where
+module _ (words : List ℕ) (n : ℕ) (buffer : List ℕ) (start found : ℕ) (counted : found ≡ length (gathered (toldBy words) 0 n)) where
   abbrev pairs : List Pair
-  pairs = gathered (toldBy m words) 0 n
-
-  counted : found ≡ length pairs
-  counted = e ∙ sym (length-told m words n)
+  pairs = gathered (toldBy words) 0 n
 
   pub length-numbers : length (twoEach pairs) ≡ 2 * found
   length-numbers = length-two-each pairs ∙ ap (λ (k : ℕ). 2 * k) (sym counted)
 
-  pub no-room : length buffer - start < 2 * found → Found m words n buffer start (refused 5 0 found) buffer
+  pub no-room : length buffer - start < 2 * found → Found words n buffer start (refused 5 0 found) buffer
   no-room h =
       let is : roomFor (length pairs) (length buffer - start) ≡ refused 5 0 (length pairs) =
       no-room-refused (length pairs) (length buffer - start) (omega (arith, h, counted)) in
@@ -42,9 +39,9 @@ module _ (m : ℕ) (words : List ℕ) (n : ℕ) (buffer : List ℕ) (start found
       }
 
   pub enough-room : {count : ℕ} {new : List ℕ} → 2 * found ≤ length buffer - start → Wrote (twoEach pairs) (free-part start buffer) count new →
-      Found m words n buffer start (served found) (putMid start (length buffer - start) buffer new)
+      Found words n buffer start (served found) (putMid start (length buffer - start) buffer new)
   enough-room h w =
-      let all : listed m words n buffer start ≡ served pairs =
+      let all : listed words n buffer start ≡ served pairs =
       ap (λ (c : Check). c then served pairs) (room-fine (length pairs) (length buffer - start) (omega (arith, h, counted))) in record {
         told = ap served counted ∙ sym (ap (withServed length) all);
         left = put-back start buffer w ∙ ap (λ (k : ℕ). take start buffer ++ twoEach pairs ++ drop (start + k) buffer) (length-two-each pairs)
@@ -55,11 +52,11 @@ module _ (m : ℕ) (words : List ℕ) (n : ℕ) (buffer : List ℕ) (start found
 module _ (a b : List ℤ) (buffer : List ℕ) (start : ℕ) where
   -- The input is fine, and all words are known.
   pub found-rule : {words : List ℕ} {answer : Answer ℕ} {after : List ℕ} → inputChecks a b buffer start ≡ fine → triangles b ≤ 1024 →
-      VerdictsBelow a b words (triangles a * 16) → Found (triangles b) words (triangles a * 16) buffer start answer after →
+      VerdictsBelow a b words (triangles a * 16) → Found words (triangles a * 16) buffer start answer after →
       ListRule a b buffer start answer after
   found-rule {words} passed few verdicts found =
-      let told = all-told words (triangles a) (triangles b) few in
-      let same : listed (triangles b) words (triangles a * 16) buffer start ≡ outcome (kept words) a b buffer start =
+      let told = all-told words (triangles a) (triangles b) few (λ k h. verdicts k h .small) in
+      let same : listed words (triangles a * 16) buffer start ≡ outcome (kept words) a b buffer start =
       λ i. sym passed i then roomFor (length (told i)) (length buffer - start) then served (told i) in record {
         meets = kept words;
         right = λ g. kept-right a b words few verdicts;

@@ -9,22 +9,15 @@ ghost use mathlib.Core.Path.{_≡_};
 ghost use Prim.Native.Nat.{_*_, _≤_};
 ghost use lib.ListN.{length};
 ghost use Rattle.checks.specs.Answers.{fine};
-ghost use Rattle.deciding.specs.Words.{onesBelow};
+ghost use Rattle.listing.specs.Pairs.{gathered};
 ghost use Rattle.listing.specs.Rules.{inputChecks, ListRule};
 ghost use Rattle.listing.specs.Told.{toldList};
-ghost use Rattle.listing.specs.Writing.{Small, Found};
+ghost use Rattle.listing.specs.Writing.{toldBy, Found};
 
 // Writes the pairs that the words tell, or gives refusal 5 where there is too little room for them.
-fn list_found(
-    words: &[u64],
-    n: usize,
-    m: usize,
-    found: usize,
-    buffer: &mut [u32],
-    start: usize,
-) -> ListAnswer
-    requires { ⌜ (n ≤ 1024) × (m ≤ 1024) × (n * 16 ≤ length (now words)) × Small m (now words) (n * 16) × (found ≡ onesBelow m (now words) (n * 16)) × (start ≤ length (now buffer)) ⌝ }
-    ensures { λ r. ⌜ Found m (now (words .entry)) (n * 16) (now (buffer .entry)) start (toldList r) (now (buffer .exit)) ⌝ }
+fn list_found(words: &[u64], n: usize, found: usize, buffer: &mut [u32], start: usize) -> ListAnswer
+    requires { ⌜ (n ≤ 1024) × (n * 16 ≤ length (now words)) × (found ≡ length (gathered (toldBy (now words)) 0 (n * 16))) × (start ≤ length (now buffer)) ⌝ }
+    ensures { λ r. ⌜ Found (now (words .entry)) (n * 16) (now (buffer .entry)) start (toldList r) (now (buffer .exit)) ⌝ }
 {
     if buffer.len() - start < 2 * found {
         return ListAnswer::Refused(Refusal {
@@ -33,7 +26,7 @@ fn list_found(
             place: found,
         });
     }
-    put_pairs(&mut buffer[start..], words, n, m);
+    put_pairs(&mut buffer[start..], words, n);
     ListAnswer::Listed(found)
 }
 
@@ -44,14 +37,7 @@ fn list_sound(a: &[i32], b: &[i32], buffer: &mut [u32], start: usize) -> ListAns
 {
     let mut words = [0u64; 16_384];
     let found = decide_lists(a, b, &mut words[..]);
-    list_found(
-        &words[..],
-        a.len() / 9,
-        b.len() / 9,
-        found as usize,
-        buffer,
-        start,
-    )
+    list_found(&words[..], a.len() / 9, found as usize, buffer, start)
 }
 
 // Lists every pair of triangles of the two lists that have a point in common into the buffer, from the start on.

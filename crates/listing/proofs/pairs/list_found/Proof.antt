@@ -2,9 +2,9 @@
 use Prim.Native.Nat.{_*_}
 use native.Mathlib.Omega.{arith}
 use borrow.Author.Needs.{needs}
-use Rattle.deciding.proofs.WordLaws.{few-below}
 use Rattle.listing.proofs.Filling.{length-free}
 use Rattle.listing.proofs.Found.{length-numbers, no-room, enough-room}
+use Rattle.listing.proofs.Telling.{few-told}
 use Rattle.listing.proofs.pairs.list_found.Statement.{statement}
 use Rattle.listing.proofs.pairs.list_found.Tie as tie
 
@@ -15,13 +15,13 @@ mul-if1 : tie.Need-mul-if1
 mul-if1 c =
     let p = c .before .before in
     let a = p .args in
-    omega (arith, p .pre .4, p .pre .0, few-below (a .m) (a .words .now) (a .n * 16))
+    omega (arith, p .pre .2, p .pre .0, few-told (a .words .now) (a .n * 16))
 
 returns : tie.Need-returns
 returns c =
     let p = c .before .before .before in
     let a = p .args in
-    no-room (a .m) (a .words .now) (a .n * 16) (a .buffer .now) (a .start) (a .found) (p .pre .4) (c .if1 .taken)
+    no-room (a .words .now) (a .n * 16) (a .buffer .now) (a .start) (a .found) (p .pre .2) (c .if1 .taken)
 
 mul-put-pairs : tie.Need-mul-put-pairs
 mul-put-pairs c = search needs
@@ -39,8 +39,8 @@ put-pairs-requires : tie.Need-put-pairs-requires
 put-pairs-requires c κs =
     let p = c .before .before .before .before in
     let a = p .args in
-    let long = length-numbers (a .m) (a .words .now) (a .n * 16) (a .buffer .now) (a .start) (a .found) (p .pre .4) in
-    (p .pre .0, p .pre .1, p .pre .2, p .pre .3, omega (arith, long, length-free (a .start) (a .buffer .now), c .before .if1 .left))
+    let long = length-numbers (a .words .now) (a .n * 16) (a .buffer .now) (a .start) (a .found) (p .pre .2) in
+    (p .pre .0, p .pre .1, omega (arith, long, length-free (a .start) (a .buffer .now), c .before .if1 .left))
 
 same-length : tie.Need-same-length
 same-length c = search needs
@@ -51,7 +51,7 @@ returns-2 c =
     let q = w .before .before in
     let p = q .before .before .before in
     let a = p .args in
-    enough-room (a .m) (a .words .now) (a .n * 16) (a .buffer .now) (a .start) (a .found) (p .pre .4) (q .if1 .left) (w .put-pairs .ensures)
+    enough-room (a .words .now) (a .n * 16) (a .buffer .now) (a .start) (a .found) (p .pre .2) (q .if1 .left) (w .put-pairs .ensures)
 
 pub list-found-spec : {M : Type 1} → statement M
 list-found-spec =

@@ -1,8 +1,10 @@
 -- `listing::pairs::list_sound` meets its contract: all pairs are decided before one is written. Assumes nothing.
+use mathlib.Core.Path.{sym, _∙_}
 use native.Mathlib.Omega.{arith}
 use borrow.Author.Needs.{needs}
 use Rattle.listing.proofs.Found.{found-rule}
 use Rattle.listing.proofs.Sound.{both-sound, start-within}
+use Rattle.listing.proofs.Telling.{length-told}
 use Rattle.listing.proofs.pairs.list_sound.Statement.{statement}
 use Rattle.listing.proofs.pairs.list_sound.Tie as tie
 
@@ -26,10 +28,8 @@ list-found-requires c κs =
     let a = p .args in
     let both = both-sound (a .a .now) (a .b .now) (a .buffer .now) (a .start) (p .pre) in (
       both .0 .few,
-      both .1 .few,
       omega (arith, both .0 .few, c .before .before .words2 .given),
-      λ k h. d .decide-lists .ensures .0 k h .small,
-      d .decide-lists .ensures .1,
+      d .decide-lists .ensures .1 ∙ sym (length-told _ _ _ (λ k h. d .decide-lists .ensures .0 k h .small)),
       start-within (a .a .now) (a .b .now) (a .buffer .now) (a .start) (p .pre),
     )
 
