@@ -43,11 +43,17 @@ pub fn triangles_meet(first: &[i32], second: &[i32]) -> bool
     ensures { λ r. ⌜ Judges 3 3 3 (now (first .entry)) (now (second .entry)) r ⌝ }
 {
     let n = normal_of(space_triangle(second));
-    let s = standing_over(first, second, n);
+    let s = standing_over(&first[..], &second[..], n);
     if s == 0 {
         return false; // the first is beside the second's plane: nobody asks for its own normal
     }
-    meet_by_standing(first, s, normal_of(space_triangle(first)), second, n)
+    meet_by_standing(
+        &first[..],
+        s,
+        normal_of(space_triangle(first)),
+        &second[..],
+        n,
+    )
 }
 
 // The normal that fills a list of three numbers.
@@ -82,9 +88,9 @@ pub fn known_triangles_meet(first: &[i32], m: &[i64], second: &[i32], n: &[i64])
     ensures { λ r. ⌜ Judges 3 3 3 (now (first .entry)) (now (second .entry)) r ⌝ }
 {
     let known = normal_in(n);
-    let s = standing_over(first, second, known);
+    let s = standing_over(&first[..], &second[..], known);
     if s == 0 {
         return false;
     }
-    meet_by_standing(first, s, normal_in(m), second, known)
+    meet_by_standing(&first[..], s, normal_in(m), &second[..], known)
 }

@@ -73,19 +73,21 @@ fn close_meet(t: &[i32], m: SpacePoint, u: &[i32], n: SpacePoint) -> bool
 
 // Whether two triangles, nine numbers each, have a point in common, where m and n are their normals and s is the standing of t to the plane of u, and
 // not beside it. Every point is on the plane of a flat one, whose normal is zero, so that nothing asks for flat ones before the standings do.
+// The lists are lent on by `[..]`, here and in crate `kernel`: lent on as they came, where they lie would be copied first, and a
+// processor waits for a copy of what was stored a moment ago.
 pub fn meet_by_standing(t: &[i32], s: u32, m: SpacePoint, u: &[i32], n: SpacePoint) -> bool
     requires { ⌜ Ready 9 (now t) × Ready 9 (now u) × (spatial m ≡ normalIn (now t)) × (spatial n ≡ normalIn (now u)) × Stands (ofLists pattern (now t) (now u)) s × (s ≡ 0 → ⊥) ⌝ }
     ensures { λ v. ⌜ v ≡ ofLists trianglesTest (now (t .entry)) (now (u .entry)) ⌝ }
 {
     if s == 1 {
-        return close_meet(t, m, u, n);
+        return close_meet(&t[..], m, &u[..], n);
     }
-    let r = standing_over(u, t, m);
+    let r = standing_over(&u[..], &t[..], m);
     if r == 0 {
         return false;
     }
     if r == 1 {
-        return close_meet(u, n, t, m);
+        return close_meet(&u[..], n, &t[..], m);
     }
-    crossing(t, s, u, r)
+    crossing(&t[..], s, &u[..], r)
 }
