@@ -5,10 +5,8 @@ use mathlib.Core.Bool.{Bool, true, false, cond}
 use mathlib.Core.List.{List}
 use Prim.Native.Nat.{ℕ, zero, suc, _+_, _-_, _*_, _^_, _<_, _≤_}
 use native.Mathlib.Omega.{arith}
-use borrow.Author.Tests.{lt-ltb, le-ltb}
-use lib.Dec.{ltb}
 use lib.IntN.{ℤ, pos, negsuc, predℤ, negℤ, _-ℤ_, predℤ-+ℤ, +ℤ-idl}
-use lib.ListN.{getD, take, drop}
+use lib.ListN.{getD, drop}
 use lib.Seq.{getD-take, getD-drop}
 use lib.Signed.{ltZ, mag, _≤ℤ_, clashℤ}
 use mir.Syntax.{w32}
@@ -18,7 +16,7 @@ use Rattle.shape.specs.Sharing.{Share}
 use Rattle.shape.proofs.Trading.{share-trade}
 use Rattle.boxes.specs.Boxes.{smaller, larger, bestAt, boxOf, apartAlong, boxesApart, six}
 use Rattle.boxes.proofs.BoxLaws.{read, lt-true, lt-false, apart-at}
-use Rattle.sifting.specs.Ends.{mirror, endOf, reachOf, Reaches}
+use Rattle.sifting.specs.Ends.{mirror, Reaches}
 
 -- ---- numbers mirrored
 minus-one-less : (z : ℤ) → negsuc 0 -ℤ z ≡ mirror z

@@ -1,5 +1,5 @@
 -- Tables of words (specs/Tables.antt): a word that is built from its highest bit down, and what a row for each end leaves. Assumes nothing.
-use mathlib.Core.Path.{_≡_, refl, sym, ap, subst, _∙_}
+use mathlib.Core.Path.{_≡_, refl, subst, _∙_}
 use mathlib.Core.Bool.{Bool, true, false, cond}
 use mathlib.Core.Logic.{inl, inr}
 use mathlib.Core.List.{List}

@@ -1,7 +1,7 @@
 // The rows of a table that serve a box, and the boxes that they leave.
 use crate::ends::reach_at;
 ghost use mathlib.Core.Path.{_≡_};
-ghost use Prim.Native.Nat.{ℕ, _+_, _*_, _/_, _≤_, _<_};
+ghost use Prim.Native.Nat.{ℕ, _+_, _*_, _≤_, _<_};
 ghost use lib.ListN.{length, getD};
 ghost use Rattle.sifting.specs.Tables.{RowFor, RowsFor, Joined};
 

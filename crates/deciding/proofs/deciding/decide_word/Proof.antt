@@ -1,6 +1,6 @@
 -- `deciding::deciding::decide_word` meets its contract: each turn decides the lowest candidate. Assumes nothing.
-use mathlib.Core.Path.{_≡_, subst}
-use Prim.Native.Nat.{ℕ, suc, _+_, _-_, _*_, _^_, _<_, _≤_}
+use mathlib.Core.Path.{subst}
+use Prim.Native.Nat.{ℕ, _-_}
 use native.Mathlib.Omega.{arith}
 use Rattle.words.specs.Spans.{span}
 use Rattle.words.proofs.LowestLaws.{lowest-found, lowest-within, rest-less}

@@ -8,7 +8,6 @@ use Rattle.algebra.proofs.Parts.{part}
 use Rattle.exact.specs.Grid.{Ready}
 use Rattle.kernel.specs.Meeting.{Judges}
 use Rattle.exact.specs.Vectors.{normalIn}
-use Rattle.boxes.specs.Triangles.{nine}
 use Rattle.deciding.proofs.deciding.pair_meets.Statement.{statement}
 use Rattle.deciding.proofs.deciding.pair_meets.Tie as tie
 

@@ -1,14 +1,12 @@
 -- `sifting::candidates::put_by_table` meets its contract: the words of the boxes before i are written, and those of the next leave them. Assumes nothing.
-use mathlib.Core.Path.{_≡_, refl, sym, subst, _∙_}
+use mathlib.Core.Path.{_≡_, refl, subst}
 use mathlib.Core.List.{List}
-use Prim.Native.Nat.{ℕ, _+_, _-_, _*_, _/_, _%_, _≤_, _<_}
+use Prim.Native.Nat.{_+_, _-_, _*_, _≤_}
 use native.Mathlib.Omega.{arith}
 use lib.IntN.{ℤ}
-use lib.ListN.{length, getD}
+use lib.ListN.{length}
 use Rattle.algebra.proofs.Parts.{part, length-lent}
-use Rattle.words.specs.Spans.{firstOf, span}
-use Rattle.boxes.specs.Boxes.{six}
-use Rattle.sifting.specs.Tables.{Table, RowsFor, Candidates, CandidatesBelow}
+use Rattle.sifting.specs.Tables.{RowsFor, CandidatesBelow}
 use Rattle.sifting.proofs.TableLaws.{rows-inside, joined-candidates, candidates-on}
 use borrow.Author.Needs.{needs}
 use Rattle.sifting.proofs.candidates.put_by_table.Statement.{statement}

@@ -1,7 +1,7 @@
 -- `sifting::candidates::reached_of` meets its contract: the bits from t on are kept, and the one before them becomes the lowest. Assumes nothing.
-use mathlib.Core.Path.{_≡_, subst}
+use mathlib.Core.Path.{_≡_}
 use mathlib.Core.Bool.{true, false}
-use Prim.Native.Nat.{ℕ, suc, _+_, _-_, _*_, _^_, _<_, _≤_}
+use Prim.Native.Nat.{suc, _+_, _-_, _<_, _≤_}
 use native.Mathlib.Omega.{arith}
 use Rattle.words.proofs.BitLaws.{one-more-small}
 use Rattle.boxes.specs.Boxes.{six}

@@ -2,7 +2,6 @@
 use mir.Syntax.{w32}
 use Rattle.algebra.proofs.Machine.{returned}
 use Rattle.sifting.proofs.EndLaws.{mirror-read, mirror-in-range}
-use borrow.Author.Needs.{needs}
 use Rattle.sifting.proofs.ends.mirrored.Statement.{statement}
 use Rattle.sifting.proofs.ends.mirrored.Tie as tie
 

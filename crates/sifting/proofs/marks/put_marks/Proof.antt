@@ -1,6 +1,6 @@
 -- `sifting::marks::put_marks` meets its contract: the marks are as many as they were. Assumes nothing.
 use mathlib.Core.Path.{_≡_, sym, _∙_}
-use Prim.Native.Nat.{ℕ, _+_, _-_, _*_, _≤_}
+use Prim.Native.Nat.{_+_, _-_, _*_, _≤_}
 use native.Mathlib.Omega.{arith}
 use borrow.Rule.Slice.PartMut.{same-len-mid}
 use lib.ListN.{length}

@@ -1,8 +1,8 @@
 -- `sifting::marks::put_marks_of` meets its contract: the marks are as many as they were. Assumes nothing.
-use mathlib.Core.Path.{_≡_, _∙_}
+use mathlib.Core.Path.{_≡_}
 use Prim.Native.Nat.{_-_, _≤_}
 use native.Mathlib.Omega.{arith}
-use lib.ListN.{length, length-set}
+use lib.ListN.{length}
 use borrow.Author.Needs.{needs}
 use Rattle.sifting.proofs.marks.put_marks_of.Statement.{statement}
 use Rattle.sifting.proofs.marks.put_marks_of.Tie as tie

@@ -1,5 +1,5 @@
 -- `sifting::marks::sink` meets its contract: two numbers at a time trade places, and none is left out. Assumes nothing.
-use mathlib.Core.Path.{_≡_, refl, _∙_}
+use mathlib.Core.Path.{_≡_, refl}
 use Prim.Native.Nat.{_≤_, _<_}
 use native.Mathlib.Omega.{arith}
 use lib.ListN.{length, length-set}

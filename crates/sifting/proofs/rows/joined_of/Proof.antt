@@ -1,10 +1,10 @@
 -- `sifting::rows::joined_of` meets its contract: a bit that the last row and the rows before e have is set. Assumes nothing.
-use mathlib.Core.Path.{_≡_, refl}
+use mathlib.Core.Path.{_≡_}
 use mathlib.Core.Bool.{true}
 use Prim.Native.Nat.{ℕ, _+_, _-_, _*_, _≤_, _<_}
 use native.Mathlib.Omega.{arith}
 use lib.Bits.{and-le-l}
-use lib.ListN.{length, getD}
+use lib.ListN.{getD}
 use Rattle.words.specs.Bits.{bit}
 use Rattle.sifting.proofs.TableLaws.{both-set}
 use borrow.Author.Needs.{needs}
