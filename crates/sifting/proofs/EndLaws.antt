@@ -1,4 +1,4 @@
--- The ends of boxes (specs/Ends.antt): numbers mirrored, what the code reads of a box, and that a triangle's box reaches every box whose triangle
+-- The ends of boxes (specs/Ends.antt): numbers mirrored, what the code reads of a box, boxes that are apart, and that a triangle's box reaches every box whose triangle
 -- has a point in common with it. Assumes nothing.
 use mathlib.Core.Path.{_≡_, refl, sym, ap, subst, _∙_}
 use mathlib.Core.Bool.{Bool, true, false, cond}
@@ -46,13 +46,32 @@ module _ (z : ℤ) (fits : Fits z) where
 pub of-six : (j e : ℕ) (boxes : List ℤ) → e < 6 → getD (six j boxes) e (pos 0) ≡ getD boxes (6 * j + e) (pos 0)
 of-six j e boxes h = getD-take 6 (drop (6 * j) boxes) e (pos 0) h ∙ getD-drop (6 * j) boxes e (pos 0)
 
--- ---- boxes that are apart
+-- ---- triangles that have a point in common
 mirror-le : (x y : ℤ) → x ≤ℤ y → mirror y ≤ℤ mirror x
 mirror-le (pos a) (pos b) h = record { le = h .le }
 mirror-le (pos a) (negsuc b) h = absurd (h .le)
 mirror-le (negsuc a) (pos b) h = record { le = tt }
 mirror-le (negsuc a) (negsuc b) h = record { le = h .le }
 
+-- Along coordinate c, the box of Q begins where that of P ends or before.
+along : (c : ℕ) → c < 3 → (P Q : List ℤ) → Share 3 (pointsAt 3 3 0 P) (pointsAt 3 3 0 Q) → bestAt smaller c Q ≤ℤ bestAt larger c P
+along c h P Q shared = by-test (ltZ (bestAt larger c P) (bestAt smaller c Q)) refl
+  where
+    by-test : (t : Bool) → ltZ (bestAt larger c P) (bestAt smaller c Q) ≡ t → bestAt smaller c Q ≤ℤ bestAt larger c P
+    by-test true e = absurd (apart-at c h P Q e shared)
+    by-test false e = lt-false e
+
+-- So at each of the six ends the box of P reaches that of Q.
+pub boxes-reach : (P Q : List ℤ) → Share 3 (pointsAt 3 3 0 P) (pointsAt 3 3 0 Q) → Reaches (boxOf P) (boxOf Q)
+boxes-reach P Q shared zero h = along 0 (omega arith) P Q shared
+boxes-reach P Q shared (suc zero) h = along 1 (omega arith) P Q shared
+boxes-reach P Q shared (suc (suc zero)) h = along 2 (omega arith) P Q shared
+boxes-reach P Q shared (suc (suc (suc zero))) h = mirror-le (bestAt smaller 0 P) (bestAt larger 0 Q) (along 0 (omega arith) Q P (share-trade shared))
+boxes-reach P Q shared (suc (suc (suc (suc zero)))) h = mirror-le (bestAt smaller 1 P) (bestAt larger 1 Q) (along 1 (omega arith) Q P (share-trade shared))
+boxes-reach P Q shared (suc (suc (suc (suc (suc zero))))) h = mirror-le (bestAt smaller 2 P) (bestAt larger 2 Q) (along 2 (omega arith) Q P (share-trade shared))
+boxes-reach P Q shared (suc (suc (suc (suc (suc (suc e)))))) h = absurd (omega arith)
+
+-- ---- boxes that are apart
 mirror-back : (x y : ℤ) → mirror x ≤ℤ mirror y → y ≤ℤ x
 mirror-back (pos a) (pos b) h = record { le = h .le }
 mirror-back (pos a) (negsuc b) h = record { le = tt }
@@ -75,22 +94,3 @@ reaching-boxes first second reaches =
     neither : (c : ℕ) → getD second c (pos 0) ≤ℤ getD first (c + 3) (pos 0) → mirror (getD second (c + 3) (pos 0)) ≤ℤ mirror (getD first c (pos 0)) →
         apartAlong c first second ≡ false
     neither c ahead behind = λ i. cond (not-before ahead i) true (not-before (mirror-back (getD second (c + 3) (pos 0)) (getD first c (pos 0)) behind) i)
-
--- ---- triangles that have a point in common
--- Along coordinate c, the box of Q begins where that of P ends or before.
-along : (c : ℕ) → c < 3 → (P Q : List ℤ) → Share 3 (pointsAt 3 3 0 P) (pointsAt 3 3 0 Q) → bestAt smaller c Q ≤ℤ bestAt larger c P
-along c h P Q shared = by-test (ltZ (bestAt larger c P) (bestAt smaller c Q)) refl
-  where
-    by-test : (t : Bool) → ltZ (bestAt larger c P) (bestAt smaller c Q) ≡ t → bestAt smaller c Q ≤ℤ bestAt larger c P
-    by-test true e = absurd (apart-at c h P Q e shared)
-    by-test false e = lt-false e
-
--- So at each of the six ends the box of P reaches that of Q.
-pub boxes-reach : (P Q : List ℤ) → Share 3 (pointsAt 3 3 0 P) (pointsAt 3 3 0 Q) → Reaches (boxOf P) (boxOf Q)
-boxes-reach P Q shared zero h = along 0 (omega arith) P Q shared
-boxes-reach P Q shared (suc zero) h = along 1 (omega arith) P Q shared
-boxes-reach P Q shared (suc (suc zero)) h = along 2 (omega arith) P Q shared
-boxes-reach P Q shared (suc (suc (suc zero))) h = mirror-le (bestAt smaller 0 P) (bestAt larger 0 Q) (along 0 (omega arith) Q P (share-trade shared))
-boxes-reach P Q shared (suc (suc (suc (suc zero)))) h = mirror-le (bestAt smaller 1 P) (bestAt larger 1 Q) (along 1 (omega arith) Q P (share-trade shared))
-boxes-reach P Q shared (suc (suc (suc (suc (suc zero))))) h = mirror-le (bestAt smaller 2 P) (bestAt larger 2 Q) (along 2 (omega arith) Q P (share-trade shared))
-boxes-reach P Q shared (suc (suc (suc (suc (suc (suc e)))))) h = absurd (omega arith)
