@@ -18,14 +18,17 @@ type Contender = fn(&[i32], &[i32], &mut [u32], usize) -> Answer;
 /// The two lists of a call.
 type Lists<'a> = [&'a [i32]; 2];
 
+/// Compares without timing. The last line to print; it is an error where two answers or buffers differ.
+pub fn compare() -> Result<String, String> {
+    agreed_inputs(&lists::timed())?;
+    Ok("all listings agree; nothing is timed".into())
+}
+
 /// The last line to print. It is an error where two answers or buffers differ, or where each goal has
 /// to be reached and one is not.
 pub fn compare_and_time(goals: bool) -> Result<String, String> {
     let inputs = lists::timed();
-    let counts: Vec<Vec<usize>> = inputs.iter().map(agreed_counts).collect::<Result<_, _>>()?;
-    for question in lists::faulty() {
-        agreed_answer(&question)?;
-    }
+    let counts = agreed_inputs(&inputs)?;
     let reached = inputs
         .iter()
         .zip(counts)
@@ -35,6 +38,14 @@ pub fn compare_and_time(goals: bool) -> Result<String, String> {
 }
 
 // ---- The comparison ----
+
+/// How many pairs of each call of each input meet, if all contenders agree, on faulty inputs too.
+fn agreed_inputs(inputs: &[Input]) -> Result<Vec<Vec<usize>>, String> {
+    for question in lists::faulty() {
+        agreed_answer(&question)?;
+    }
+    inputs.iter().map(agreed_counts).collect()
+}
 
 /// How many pairs of each call of an input meet, if all contenders agree.
 fn agreed_counts(input: &Input) -> Result<Vec<usize>, String> {

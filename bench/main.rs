@@ -7,8 +7,8 @@
 //! For the pairs, the segments and the listings the ordinary code has 128-bit numbers. With 64-bit
 //! numbers it is timed too, to show what of that is due to the width of the numbers alone. For the plates
 //! and the sheets it has 64-bit numbers. A plate that recounts all pairs at each call is timed too, to
-//! show what keeping the count gains. With --check nothing is timed: the inputs of the bytes and of the
-//! sheets and a part of the plates' are compared.
+//! show what keeping the count gains. With --check nothing is timed: the inputs of the bytes, the listings
+//! and the sheets and a part of the plates' are compared.
 //!
 //! `bench/run` says how it is called, and which arguments go together.
 //!
@@ -58,7 +58,7 @@ fn main() -> ExitCode {
         }
     };
     if asked.check {
-        return status(told(bytes::compare()) & told(plates::compare()) & told(sheets::compare()));
+        return status(compared());
     }
     // All are run even if one fails, and each says its last line as soon as it has it.
     let mut all_well = true;
@@ -82,6 +82,11 @@ fn main() -> ExitCode {
         all_well &= told(sheets::compare_and_time(asked.goals));
     }
     status(all_well)
+}
+
+/// Compares without timing, all even if one fails.
+fn compared() -> bool {
+    told(bytes::compare()) & told(listings::compare()) & told(plates::compare()) & told(sheets::compare())
 }
 
 fn status(all_well: bool) -> ExitCode {

@@ -13,6 +13,8 @@ use crate::random::Random;
 const MOST_NUMBERS: usize = TRIANGLE_NUMBERS * MOST_TRIANGLES;
 /// Of a hundred listings, so many are made to have bad lists.
 const FAULTY: u64 = 33;
+/// A list of many different triangles has so many, or up to half as many more.
+const MANY: usize = 200;
 
 pub fn any_listing(random: &mut Random) -> Call {
     let sizes = any_sizes(random);
@@ -49,10 +51,14 @@ fn thin_now_and_then(random: &mut Random, lists: &mut Lists) {
 
 // ---- Sizes ----
 
-/// Mostly a few triangles, and now and then up to forty. Both lists are empty oftener than by chance.
+/// Mostly a few triangles, and now and then up to forty. Both lists are empty oftener than by chance, and seldom both
+/// have some hundred different triangles: what is worth its while for long lists alone may be done for them.
 fn any_sizes(random: &mut Random) -> [usize; 2] {
     if random.once_in(50) {
         return [0, 0];
+    }
+    if random.once_in(500) {
+        return [(); 2].map(|()| MANY + random.index(MANY / 2));
     }
     let any_size = |random: &mut Random| {
         let most = random.pick(&[2, 4, 4, 8, 8, 8, 16, 16, 40]);
