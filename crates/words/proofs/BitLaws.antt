@@ -1,6 +1,6 @@
 -- The bits of words (specs/Bits.antt): of none and of all, of a word with one bit more, below those that it had or among them, and of the bits that two
 -- words have in common. Assumes nothing.
-use mathlib.Core.Path.{_≡_, refl, ap, ap₂, _∙_}
+use mathlib.Core.Path.{_≡_, refl, ap, _∙_}
 use mathlib.Core.Bool.{Bool, true, false, cond}
 use Prim.Native.Nat.{ℕ, zero, suc, _+_, _-_, _*_, _/_, _%_, _^_, _<_, _≤_, min}
 use native.Mathlib.Omega.{arith}
@@ -11,7 +11,7 @@ use lib.Pow.{pow-pos}
 use mir.Val.{boolByte}
 use Rattle.words.specs.Bits.{bit, ones}
 
--- ---- none, all, and those past the end
+-- ---- none and all
 pub bit-of-none : (t : ℕ) → bit t 0 ≡ false
 bit-of-none zero = refl
 bit-of-none (suc t) = bit-of-none t
@@ -27,13 +27,6 @@ bit-of-all (suc t) (suc n) h =
     let half : (2 ^ suc n - 1) / 2 ≡ 2 ^ n - 1 = omega (arith, pow-pos n) in
     rw half (bit-of-all t n (omega arith))
 
-pub no-bit-past : (n t word : ℕ) → word < 2 ^ n → n ≤ t → bit t word ≡ false
-no-bit-past zero t word small h =
-    let none : word ≡ 0 = omega arith in
-    rw none (bit-of-none t)
-no-bit-past (suc n) zero word small h = absurd (omega arith)
-no-bit-past (suc n) (suc t) word small h = no-bit-past n t (word / 2) (omega arith) (omega arith)
-
 pub few-ones : (n word : ℕ) → ones n word ≤ n
 few-ones zero word = omega arith
 few-ones (suc n) word = omega (arith, few-ones n (word / 2))
@@ -43,7 +36,7 @@ pub halves : (word : ℕ) (v : Bool) → (2 * word + boolByte v) / 2 ≡ word
 halves word true = omega arith
 halves word false = omega arith
 
-pub rests : (word : ℕ) (v : Bool) → (2 * word + boolByte v) % 2 ≡ boolByte v
+rests : (word : ℕ) (v : Bool) → (2 * word + boolByte v) % 2 ≡ boolByte v
 rests word true = omega arith
 rests word false = omega arith
 
@@ -56,9 +49,6 @@ lowest-bit word v = ap (λ (r : ℕ). eqb r 1) (rests word v) ∙ of-one v
 
 pub higher-bit : (t word : ℕ) (v : Bool) → bit (suc t) (2 * word + boolByte v) ≡ bit t word
 higher-bit t word v = ap (bit t) (halves word v)
-
-pub ones-more : (n word : ℕ) (v : Bool) → ones (suc n) (2 * word + boolByte v) ≡ boolByte v + ones n word
-ones-more n word v = ap₂ (λ r h. r + ones n h) (rests word v) (halves word v)
 
 pub one-more-small : (n word : ℕ) (v : Bool) → word < 2 ^ n → 2 * word + boolByte v < 2 ^ suc n
 one-more-small n word true small = omega arith

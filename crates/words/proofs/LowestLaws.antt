@@ -20,11 +20,6 @@ pub lowest-is-gone : {z word rest : ℕ} → Lowest z word rest → bit z rest �
 lowest-is-gone {rest = rest} (lowest-here set gone same) = ne-eqb (rest % 2) 1 (λ e. omega arith)
 lowest-is-gone (lowest-above none gone low) = lowest-is-gone low
 
-pub none-below-lowest : {z word rest : ℕ} → Lowest z word rest → (t : ℕ) → t < z → bit t word ≡ false
-none-below-lowest (lowest-here set gone same) t h = absurd (omega arith)
-none-below-lowest {word = word} (lowest-above none gone low) zero h = ne-eqb (word % 2) 1 (λ e. omega arith)
-none-below-lowest (lowest-above none gone low) (suc t) h = none-below-lowest low t (omega arith)
-
 pub others-stay : {z word rest : ℕ} → Lowest z word rest → (t : ℕ) → (t ≡ z → ⊥) → bit t rest ≡ bit t word
 others-stay (lowest-here set gone same) zero other = absurd (other refl)
 others-stay (lowest-here set gone same) (suc t) other = ap (bit t) same
