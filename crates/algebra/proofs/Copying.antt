@@ -1,10 +1,11 @@
--- A list that is written over from the front by another. Assumes nothing.
-use mathlib.Core.Path.{_≡_, sym, ap, _∙_}
+-- A list that is written over from the front by another, and one that is written element by element. Assumes nothing.
+use mathlib.Core.Path.{_≡_, sym, ap, _∙_, subst}
 use mathlib.Core.List.{List, _++_, append-nil}
-use Prim.Native.Nat.{ℕ, suc, _≤_, _<_}
+use Prim.Native.Nat.{ℕ, suc, _+_, _≤_, _<_}
 use native.Mathlib.Omega.{arith}
+use borrow.Author.Count.{below-more}
 use lib.ListN.{set, getD, length, take, drop, drop-of-length-le}
-use lib.Seq.{drop-cons, set-at, getD-at, append-snoc, take-suc, length-take-le, take-all}
+use lib.Seq.{drop-cons, set-at, getD-at, append-snoc, take-suc, length-take-le, take-all, getD-set-same, getD-set-other}
 
 module _ {A : Type 0} where
   -- The list `old` with its first k elements those of `new`.
@@ -31,3 +32,18 @@ module _ {A : Type 0} where
 
   pub over-all : (old new : List A) (k : ℕ) → length old ≤ k → length new ≤ k → over old new k ≡ new
   over-all old new k h g = over-end old new k h ∙ take-all k new g
+
+  -- ---- elements written one after the other
+  -- What holds of the first k, and of the next, holds of all that are there, where each has a place of its own.
+  pub written-at : (place : ℕ → ℕ) (k : ℕ) (xs : List A) (new z : A) (P : ℕ → A → Type 0) → ((j : ℕ) → j < k → place j ≡ place k → ⊥) →
+      place k < length xs → P k new → ((j : ℕ) → j < k → P j (getD xs (place j) z)) →
+      (j : ℕ) → j < k + 1 → P j (getD (set xs (place k) new) (place j) z)
+  written-at place k xs new z P other inside this earlier =
+      below-more (λ j. P j (getD (set xs (place k) new) (place j) z)) k
+      (λ j h. subst (P j) (sym (getD-set-other xs (place k) (place j) new z (other j h))) (earlier j h))
+      (subst (P k) (sym (getD-set-same xs (place k) new z inside)) this)
+
+  -- The same from the front on.
+  pub written-hold : (k : ℕ) (xs : List A) (new z : A) (P : ℕ → A → Type 0) → k < length xs → P k new →
+      ((j : ℕ) → j < k → P j (getD xs j z)) → (j : ℕ) → j < k + 1 → P j (getD (set xs k new) j z)
+  written-hold k xs new z P = written-at (λ j. j) k xs new z P (λ j h e. omega arith)

@@ -8,6 +8,6 @@ pub mod Certificate
 pub mod Bound
 pub mod Machine
 pub mod Examples
--- Lists, for the proofs of code: parts that are lent and put back, and a list that is written over from the front.
+-- Lists, for the proofs of code: parts that are lent and put back, and a list that is written over from the front, or element by element.
 pub mod Parts
 pub mod Copying

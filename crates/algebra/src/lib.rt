@@ -10,4 +10,4 @@
 //   Machine      what the machine reads is the whole number meant, and small: answers to needs that nothing overflows
 //   Examples     the worked examples that the headers of these quote, all checked
 //   Parts        parts of a list that are lent and put back
-//   Copying      a list that is written over from the front
+//   Copying      a list that is written over from the front, or element by element

@@ -7,12 +7,12 @@ use Prim.Native.Nat.{ℕ, zero, suc, _+_, _-_, _*_, _/_, _^_, _<_, _≤_}
 use native.Mathlib.Omega.{arith}
 use native.Mathlib.Decide.{ℕ-discrete}
 use native.Mathlib.Nat.{pow-le-pow-right}
-use borrow.Author.Count.{below-more}
 use lib.IntN.{ℤ}
 use lib.ListN.{length, getD, set}
 use lib.Pow.{pow-pos}
 use lib.Seq.{getD-set-same, getD-set-other}
 use mir.Val.{boolByte}
+use Rattle.algebra.proofs.Copying.{written-hold}
 use Rattle.shape.specs.Points.{pointsAt}
 use Rattle.shape.specs.Sharing.{Share}
 use Rattle.shape.proofs.VerdictLaws.{says-no}
@@ -145,10 +145,8 @@ module _ (m : ℕ) (words : List ℕ) (k word : ℕ) where
 
   verdicts-stored : (a b : List ℤ) → k < length words → VerdictsBelow a b words k →
       Verdicts (nine (k / 16) a) b (firstOf k) (span (triangles b) (firstOf k)) word → VerdictsBelow a b (set words k word) (k + 1)
-  verdicts-stored a b inside earlier this = below-more Kept k (λ n h. rw (before-stored n h) (earlier n h)) (rw (getD-set-same words k word 0 inside) this)
-    where
-      Kept : ℕ → Type 0
-      Kept n = Verdicts (nine (n / 16) a) b (firstOf n) (span (triangles b) (firstOf n)) (getD (set words k word) n 0)
+  verdicts-stored a b inside earlier this =
+      written-hold k words word 0 (λ n w. Verdicts (nine (n / 16) a) b (firstOf n) (span (triangles b) (firstOf n)) w) inside this earlier
 
   ones-before : (n : ℕ) → n ≤ k → onesBelow m (set words k word) n ≡ onesBelow m words n
   ones-before zero h = refl

@@ -1,6 +1,6 @@
--- The ends of boxes (specs/Ends.antt): numbers mirrored, what the code reads of a box, boxes that are apart, and that a triangle's box reaches every box whose triangle
--- has a point in common with it. Assumes nothing.
-use mathlib.Core.Path.{_≡_, refl, sym, ap, subst, _∙_}
+-- The ends of boxes (specs/Ends.antt): numbers mirrored, what the code reads of a box, that a triangle's box reaches every box whose triangle has a
+-- point in common with it, and that boxes which reach each other are not apart. Assumes nothing.
+use mathlib.Core.Path.{_≡_, refl, sym, ap, subst, subst₂, _∙_}
 use mathlib.Core.Bool.{Bool, true, false, cond}
 use mathlib.Core.List.{List}
 use Prim.Native.Nat.{ℕ, zero, suc, _+_, _-_, _*_, _^_, _<_, _≤_}
@@ -72,11 +72,12 @@ boxes-reach P Q shared (suc (suc (suc (suc (suc zero))))) h = mirror-le (bestAt 
 boxes-reach P Q shared (suc (suc (suc (suc (suc (suc e)))))) h = absurd (omega arith)
 
 -- ---- boxes that are apart
+mirror-twice : (z : ℤ) → mirror (mirror z) ≡ z
+mirror-twice (pos n) = refl
+mirror-twice (negsuc n) = refl
+
 mirror-back : (x y : ℤ) → mirror x ≤ℤ mirror y → y ≤ℤ x
-mirror-back (pos a) (pos b) h = record { le = h .le }
-mirror-back (pos a) (negsuc b) h = record { le = tt }
-mirror-back (negsuc a) (pos b) h = absurd (h .le)
-mirror-back (negsuc a) (negsuc b) h = record { le = h .le }
+mirror-back x y h = subst₂ _≤ℤ_ (mirror-twice y) (mirror-twice x) (mirror-le (mirror x) (mirror y) h)
 
 not-before : {x y : ℤ} → y ≤ℤ x → ltZ x y ≡ false
 not-before {x} {y} h = by-test (ltZ x y) refl

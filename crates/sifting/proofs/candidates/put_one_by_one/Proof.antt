@@ -3,10 +3,9 @@ use mathlib.Core.Path.{_≡_, refl, subst, _∙_}
 use mathlib.Core.List.{List}
 use Prim.Native.Nat.{ℕ, _+_, _-_, _*_, _/_, _≤_, _<_}
 use native.Mathlib.Omega.{arith}
-use borrow.Author.Count.{below-more}
 use lib.IntN.{ℤ}
-use lib.ListN.{length, getD, set, take, drop, length-set}
-use lib.Seq.{getD-set-same, getD-set-other}
+use lib.ListN.{length, take, drop, length-set}
+use Rattle.algebra.proofs.Copying.{written-hold}
 use Rattle.algebra.proofs.Parts.{part, length-lent}
 use Rattle.words.specs.Spans.{firstOf, span}
 use Rattle.boxes.specs.Boxes.{six}
@@ -87,9 +86,7 @@ loop-again c =
     subst (λ (box : List ℤ). Candidates box (a .boxes .now) (firstOf k) (span (a .m) (firstOf k)) word) (part (6 * (k / 16)) 6 (a .bounds .now)) all in (
       omega (arith, more),
       length-set (l .words) k word ∙ l .inv .1,
-      below-more (λ j. Candidates (six (j / 16) (a .bounds .now)) (a .boxes .now) (firstOf j) (span (a .m) (firstOf j)) (getD (set (l .words) k word) j 0)) k
-          (λ j h. rw (getD-set-other (l .words) k j word 0 (λ e. omega arith)) (l .inv .2 j h))
-          (rw (getD-set-same (l .words) k word 0 inside) this),
+      written-hold k (l .words) word 0 (λ j w. Candidates (six (j / 16) (a .bounds .now)) (a .boxes .now) (firstOf j) (span (a .m) (firstOf j)) w) inside this (l .inv .2),
     )
 
 same-length : tie.Need-same-length Inv-loop μ-loop

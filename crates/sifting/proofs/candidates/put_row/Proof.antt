@@ -2,9 +2,9 @@
 use mathlib.Core.Path.{_≡_, refl, _∙_}
 use Prim.Native.Nat.{ℕ, _+_, _-_, _*_, _≤_, _<_}
 use native.Mathlib.Omega.{arith}
-use borrow.Author.Count.{below-more}
-use lib.ListN.{length, getD, set, length-set}
-use lib.Seq.{getD-set-same, getD-set-other}
+use lib.ListN.{length, getD, length-set}
+use lib.Seq.{getD-set-other}
+use Rattle.algebra.proofs.Copying.{written-at}
 use Rattle.sifting.specs.Tables.{Joined}
 use borrow.Author.Needs.{needs}
 use Rattle.sifting.proofs.candidates.put_row.Statement.{statement}
@@ -54,9 +54,7 @@ loop-again c =
       omega (arith, more),
       length-set (l .words) at word ∙ l .inv .1,
       (λ k h. getD-set-other (l .words) at k word 0 (λ e. omega arith) ∙ l .inv .2 k h),
-      below-more (λ v. Joined (a .table .now) (a .rows) v (getD (set (l .words) at word) (a .i * 16 + v) 0)) (l .w)
-          (λ v h. rw (getD-set-other (l .words) at (a .i * 16 + v) word 0 (λ e. omega arith)) (l .inv .3 v h))
-          (rw (getD-set-same (l .words) at word 0 inside) (c .joined-of .ensures)),
+      written-at (λ v. a .i * 16 + v) (l .w) (l .words) word 0 (λ v w. Joined (a .table .now) (a .rows) v w) (λ v h e. omega arith) inside (c .joined-of .ensures) (l .inv .3),
     )
 
 same-length : tie.Need-same-length Inv-loop μ-loop

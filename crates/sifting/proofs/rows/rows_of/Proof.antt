@@ -2,11 +2,10 @@
 use mathlib.Core.Path.{_≡_, refl, subst, _∙_}
 use Prim.Native.Nat.{ℕ, _-_, _≤_, _<_}
 use native.Mathlib.Omega.{arith}
-use borrow.Author.Count.{below-more}
 use lib.IntN.{ℤ}
-use lib.ListN.{length, getD, set, length-set}
-use lib.Seq.{getD-set-same, getD-set-other}
+use lib.ListN.{length, getD, length-set}
 use mir.Syntax.{w32}
+use Rattle.algebra.proofs.Copying.{written-hold}
 use Rattle.algebra.proofs.Machine.{returned}
 use Rattle.sifting.specs.Ends.{reachOf}
 use Rattle.sifting.specs.Tables.{RowFor}
@@ -50,9 +49,8 @@ loop-again c =
     subst (λ (z : ℤ). RowFor (a .marks .now) (l .e) z (c .row-of .result)) (returned w32 (reach .ok) (reach .ensures)) (c .row-of .ensures) in (
       omega (arith, c .before .before .loop-test .taken),
       length-set (l .rows) (l .e) (c .row-of .result) ∙ l .inv .1,
-      below-more (λ d. RowFor (a .marks .now) d (reachOf d (a .bounds .now)) (getD (set (l .rows) (l .e) (c .row-of .result)) d 0)) (l .e)
-          (λ d h. rw (getD-set-other (l .rows) (l .e) d (c .row-of .result) 0 (λ e. omega arith)) (l .inv .2 d h))
-          (rw (getD-set-same (l .rows) (l .e) (c .row-of .result) 0 (omega (arith, l .inv .1, c .before .before .loop-test .taken))) this),
+      written-hold (l .e) (l .rows) (c .row-of .result) 0 (λ d row. RowFor (a .marks .now) d (reachOf d (a .bounds .now)) row)
+          (omega (arith, l .inv .1, c .before .before .loop-test .taken)) this (l .inv .2),
     )
 
 returns : tie.Need-returns Inv-loop μ-loop

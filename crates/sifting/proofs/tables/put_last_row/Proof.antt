@@ -1,10 +1,11 @@
 -- `sifting::tables::put_last_row` meets its contract: the words before w are written, and the rows before stay. Assumes nothing.
 use mathlib.Core.Path.{_≡_, refl, ap, _∙_}
-use Prim.Native.Nat.{ℕ, _+_, _-_, _^_, _≤_, _<_}
+use Prim.Native.Nat.{ℕ, _+_, _-_, _*_, _^_, _≤_, _<_}
 use native.Mathlib.Omega.{arith}
-use borrow.Author.Count.{below-more}
-use lib.ListN.{length, getD, set, length-set}
-use lib.Seq.{getD-set-same, getD-set-other}
+use lib.ListN.{length, getD, length-set}
+use lib.Seq.{getD-set-other}
+use Rattle.algebra.proofs.Copying.{written-at}
+use Rattle.words.specs.Spans.{span}
 use Rattle.sifting.specs.Tables.{AllSet}
 use borrow.Author.Needs.{needs}
 use Rattle.sifting.proofs.tables.put_last_row.Statement.{statement}
@@ -50,13 +51,11 @@ loop-again c =
     let a = c .before .before .before .before .before .args in
     let w = l .w in
     let word = c .all-of .result in
-    let after = set (l .table) (1536 + w) word in
     let inside : 1536 + w < length (l .table) = omega (arith, l .inv .1, c .before .before .loop-test .taken) in (
       omega (arith, c .before .before .loop-test .taken),
       length-set (l .table) (1536 + w) word ∙ l .inv .1,
-      below-more (λ v. AllSet (a .m) after v) w
-          (λ v h. getD-set-other (l .table) (1536 + w) (1536 + v) word 0 (λ e. omega arith) ∙ l .inv .2 v h)
-          (getD-set-same (l .table) (1536 + w) word 0 inside ∙ c .all-of .ensures ∙ ap (λ (n : ℕ). 2 ^ n - 1) (c .before .span-of .ensures)),
+      written-at (λ v. 1536 + v) w (l .table) word 0 (λ v all. all ≡ 2 ^ span (a .m) (v * 64) - 1) (λ v h e. omega arith) inside
+          (c .all-of .ensures ∙ ap (λ (n : ℕ). 2 ^ n - 1) (c .before .span-of .ensures)) (l .inv .2),
       λ k h. getD-set-other (l .table) (1536 + w) k word 0 (λ e. omega arith) ∙ l .inv .3 k h,
     )
 

@@ -2,12 +2,11 @@
 use mathlib.Core.Path.{_≡_, subst, _∙_}
 use Prim.Native.Nat.{ℕ, _-_, _/_, _≤_, _<_}
 use native.Mathlib.Omega.{arith}
-use borrow.Author.Count.{below-more}
 use lib.IntN.{ℤ, pos}
-use lib.ListN.{length, getD, set, length-set}
-use lib.Seq.{getD-set-same, getD-set-other}
+use lib.ListN.{length, getD, length-set}
 use mir.Syntax.{w32}
 use mir.Val.{toZ, ofZ}
+use Rattle.algebra.proofs.Copying.{written-hold}
 use Rattle.words.specs.Spans.{firstOf, span}
 use Rattle.boxes.proofs.BoxLaws.{read}
 use Rattle.sifting.specs.Tables.{Sifts, SiftsAt}
@@ -60,7 +59,6 @@ loop-again c =
     let a = c .before .before .before .before .before .before .args in
     let k = l .k in
     let word = c .word-of .result in
-    let after = set (l .table) k word in
     let more = c .before .before .before .loop-test .taken in
     let inside : k < length (l .table) = omega (arith, l .inv .1, more) in
     let mark = getD (a .marks .now) (k / 16) (pos 0) in
@@ -70,9 +68,8 @@ loop-again c =
     subst (λ (z : ℤ). Sifts (a .boxes .now) (k / 256) z (firstOf k) (span (a .m) (firstOf k)) word) (read mark (c .before .before .word-of-arg .given)) all in (
       omega (arith, more),
       length-set (l .table) k word ∙ l .inv .1,
-      below-more (λ j. SiftsAt (a .boxes .now) (a .marks .now) (a .m) after j) k
-          (λ j h. rw (getD-set-other (l .table) k j word 0 (λ e. omega arith)) (l .inv .2 j h))
-          (rw (getD-set-same (l .table) k word 0 inside) this),
+      written-hold k (l .table) word 0
+          (λ j w. Sifts (a .boxes .now) (j / 256) (getD (a .marks .now) (j / 16) (pos 0)) (firstOf j) (span (a .m) (firstOf j)) w) inside this (l .inv .2),
     )
 
 same-length : tie.Need-same-length Inv-loop μ-loop
