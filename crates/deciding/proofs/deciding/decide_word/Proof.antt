@@ -50,11 +50,7 @@ cast-meet : tie.Need-cast-meet Inv-loop μ-loop
 cast-meet c = search needs
 
 sub-bits : tie.Need-sub-bits Inv-loop μ-loop
-sub-bits c =
-    let l = c .before .before .before .before .loop in
-    let q = c .before .before in
-    let low = lowest-found (c .before .lowest-of .ensures .0) (q .without-lowest .ensures) in
-    omega (arith, rest-less low)
+sub-bits c = omega (arith, rest-less (c .before .before .without-lowest .ensures))
 
 mul-bits : tie.Need-mul-bits Inv-loop μ-loop
 mul-bits c =
@@ -78,11 +74,7 @@ add-found c =
     omega (arith, deciding-fits (omega arith) (deciding-on (l .inv) low (c .pair-meets .ensures)) .1)
 
 loop-less : tie.Need-loop-less Inv-loop μ-loop
-loop-less c =
-    let l = c .before .before .before .before .loop in
-    let q = c .before .before in
-    let low = lowest-found (c .before .lowest-of .ensures .0) (q .without-lowest .ensures) in
-    rest-less low
+loop-less c = rest-less (c .before .before .without-lowest .ensures)
 
 loop-again : tie.Need-loop-again Inv-loop μ-loop
 loop-again c =
