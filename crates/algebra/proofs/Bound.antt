@@ -12,8 +12,9 @@ use mathlib.Core.Bool.{Bool, true, false, cond}
 use Prim.Native.Nat.{ℕ, zero, suc, _+_, _*_, _-_, _≤_}
 use native.Mathlib.Omega.{arith}
 use native.Mathlib.Nat.{mul-le-mul}
-use lib.Dec.{ltb}
+use lib.Dec.{ltb, le→leb, leb→le}
 use lib.IntN.{ℤ, pos, negsuc, negℤ, natAbs, subℕ, _+ℤ_, _-ℤ_, _*ℤ_}
+use lib.Signed.{_≤ℤ_}
 
 -- ---- the absolute value
 
@@ -63,3 +64,18 @@ within-sub {a} {b} h g = record { abs = omega (arith, abs-sub a b, h .abs, g .ab
 
 pub within-mul : {m n : ℕ} {a b : ℤ} → Within m a → Within n b → Within (m * n) (a *ℤ b)
 within-mul {a} {b} h g = record { abs = omega (arith, abs-mul a b, mul-le-mul (h .abs) (g .abs)) }
+
+-- ---- a size by two comparisons
+pub at-most : (x : ℤ) (n : ℕ) → natAbs x ≤ n → x ≤ℤ pos n
+at-most (pos m) n h = record { le = le→leb m n h }
+at-most (negsuc m) n h = record { le = tt }
+
+pub at-least : (x : ℤ) (n : ℕ) → natAbs x ≤ n → negℤ (pos n) ≤ℤ x
+at-least (pos m) zero h = record { le = le→leb 0 m (omega arith) }
+at-least (pos m) (suc n) h = record { le = tt }
+at-least (negsuc m) zero h = absurd (omega arith)
+at-least (negsuc m) (suc n) h = record { le = le→leb m n (omega arith) }
+
+pub within-both : (x : ℤ) (n : ℕ) → x ≤ℤ pos n → negℤ x ≤ℤ pos n → natAbs x ≤ n
+within-both (pos m) n h l = leb→le m n (h .le)
+within-both (negsuc m) n h l = leb→le (suc m) n (l .le)

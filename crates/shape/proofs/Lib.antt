@@ -8,6 +8,7 @@ pub mod Seeking
 pub mod Shadows
 pub mod Symbols
 pub mod SignLaws
+pub mod TurnSize
 pub mod Dependence
 pub mod Witnesses
 pub mod VerdictLaws
