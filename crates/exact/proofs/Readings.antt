@@ -1,25 +1,27 @@
 -- Coordinates as the code holds them: each is the whole number that is meant, and no larger than the grid allows. Here stand
 -- the readings of a coordinate, of a difference, of products, of a vector and of a plane's normal, which the leaves' proofs put together;
 -- and lists whose numbers are read or stored one by one. Assumes nothing.
-use mathlib.Core.Path.{_≡_, refl, sym, ap, _∙_}
+use mathlib.Core.Path.{_≡_, refl, sym, ap, _∙_, subst}
 use mathlib.Core.Bool.{Bool, true, false}
 use mathlib.Core.List.{List, [], _∷_, _++_, append-nil}
 use Prim.Native.Nat.{ℕ, zero, suc, _+_, _*_, _^_, _≤_, _<_}
 use native.Mathlib.Omega.{arith}
 use borrow.Author.Tests.{eqb-true, eqb-false}
 use lib.Dec.{T, ltb, eqb}
-use lib.IntN.{ℤ, pos, natAbs, _+ℤ_, _-ℤ_, _*ℤ_}
+use lib.IntN.{ℤ, pos, negsuc, natAbs, _-ℤ_, _*ℤ_}
 use lib.ListN.{length, getD, drop-of-length-le}
 use lib.Seq.{sets, sets-eq}
 use lib.Signed.{mag}
 use mir.Syntax.{w64}
 use mir.Val.{toZ, ofZ, hbits}
-use Rattle.algebra.proofs.Machine.{Reads, exact, held, returned, size, sum, difference, product}
+use Rattle.algebra.proofs.Bound.{Within}
+use Rattle.algebra.proofs.Machine.{Reads, exact, held, returned, size, difference, product}
 use Rattle.shape.specs.Points.{Point, coord}
-use Rattle.shape.specs.Signs.{turn, row, minor}
-use Rattle.shape.specs.Normals.{dot, normalOf}
+use Rattle.shape.specs.Signs.{turn, turnIn, row, minor, sign}
+use Rattle.shape.specs.Normals.{minors, normalOf}
 use Rattle.shape.specs.Flat.{isZero}
 use Rattle.shape.proofs.FlatLaws.{zero-says}
+use Rattle.shape.proofs.TurnSize.{turn-size}
 use Rattle.shape.proofs.VerdictLaws.{says-no, says-fixed}
 use Rattle.exact.specs.Grid.{limit}
 use Rattle.exact.specs.Vectors.{Sized, differenceSize, minorSize}
@@ -44,40 +46,33 @@ storedGap i a c = kept (kept (coord i a) -ℤ kept (coord i c))
 pub stored-gap : {a c : Point} → Sized limit a → Sized limit c → (i : ℕ) → Reads (storedGap i a c) (coord i a -ℤ coord i c) differenceSize
 stored-gap s t i = held w64 (gap s t i) tt
 
+-- A reading of a number that is known to be smaller.
+known-size : {v z : ℤ} {m n : ℕ} → Reads v z m → Within n z → Reads v z n
+known-size r h = record { is = r .is; within = h }
+
+-- A turn of three points in any two coordinates: 2^62, where the bounds of its two products add up to 2^63, which a signed 64-bit number does not hold.
+turn-within : {a b c : Point} → Sized limit a → Sized limit b → Sized limit c → (i j : ℕ) → Within minorSize (turnIn i j a b c)
+turn-within {a} {b} {c} s r t i j = record { abs = omega (arith, turn-size a b c limit (omega arith) (s .each) (r .each) (t .each) i j) }
+
 -- The turn of three points, whose differences and products were stored.
 pub turn-read : {a b c : Point} → Sized limit a → Sized limit b → Sized limit c →
     Reads (kept (storedGap 0 a c *ℤ storedGap 1 b c) -ℤ kept (storedGap 1 a c *ℤ storedGap 0 b c)) (turn a b c) minorSize
 turn-read p q r =
-    difference
+    known-size
+    (difference
     (held w64 (product (stored-gap p r 0) (stored-gap q r 1)) tt)
-    (held w64 (product (stored-gap p r 1) (stored-gap q r 0)) tt)
+    (held w64 (product (stored-gap p r 1) (stored-gap q r 0)) tt))
+    (turn-within p q r 0 1)
 
 -- A product of two coordinates.
 pub times : {m n : ℕ} {u v : Point} → T (ltb m (2 ^ hbits w64)) → T (ltb n (2 ^ hbits w64)) → Sized m u → Sized n v → (i j : ℕ) →
     Reads (kept (coord i u) *ℤ kept (coord j v)) (coord i u *ℤ coord j v) (m * n)
 times t t′ s r i j = product (coordinate t s i) (coordinate t′ r j)
 
--- A minor of two rows of differences, whose two products were stored.
-pub minor-read : {u v : Point} → Sized differenceSize u → Sized differenceSize v → (i j : ℕ) →
+-- A minor of two rows of differences, whose two products were stored, where it is known to be no larger than a normal's component.
+pub minor-read : {u v : Point} → Sized differenceSize u → Sized differenceSize v → (i j : ℕ) → natAbs (minor i j u v) ≤ minorSize →
     Reads (kept (kept (coord i u) *ℤ kept (coord j v)) -ℤ kept (kept (coord j u) *ℤ kept (coord i v))) (minor i j u v) minorSize
-minor-read s r i j = difference (held w64 (times tt tt s r i j) tt) (held w64 (times tt tt s r j i) tt)
-
--- The products of a row of differences and a vector of minors, summed from the left, each step stored: after two and after all.
-module _ {u n : Point} (s : Sized differenceSize u) (r : Sized minorSize n) where
-  abbrev product-at : ℕ → ℤ
-  product-at i = kept (coord i u) *ℤ kept (coord i n)
-
-  abbrev productSize : ℕ
-  productSize = differenceSize * minorSize
-
-  stored : (i : ℕ) → Reads (kept (product-at i)) (coord i u *ℤ coord i n) productSize
-  stored i = held w64 (times tt tt s r i i) tt
-
-  pub two-products : Reads (kept (product-at 0) +ℤ kept (product-at 1)) (coord 0 u *ℤ coord 0 n +ℤ coord 1 u *ℤ coord 1 n) (productSize + productSize)
-  two-products = sum (stored 0) (stored 1)
-
-  pub three-products : Reads (kept (kept (product-at 0) +ℤ kept (product-at 1)) +ℤ kept (product-at 2)) (dot u n) (productSize + productSize + productSize)
-  three-products = sum (held w64 two-products tt) (stored 2)
+minor-read s r i j small = known-size (difference (held w64 (times tt tt s r i j) tt) (held w64 (times tt tt s r j i) tt)) (record { abs = small })
 
 -- Three readings make a vector: it is the one meant, and no coordinate is larger than n.
 pub vector : {x y z x′ y′ z′ : ℤ} {n : ℕ} → Reads x x′ n → Reads y y′ n → Reads z z′ n →
@@ -116,15 +111,23 @@ module _ (l : List ℤ) (long : length l ≡ 3) where
       (λ i. returned w64 {r = at 0} {z = at 0} f refl i ∷ returned w64 {r = at 1} {z = at 1} g refl i ∷ returned w64 {r = at 2} {z = at 2} h refl i ∷ [])
       ∙ are-all l long
 
--- ---- the normal of a plane
-sized-row : {a d : Point} → Sized limit a → Sized limit d → Sized differenceSize (row a d)
+-- ---- a row of differences, and the normal of a plane
+pub sized-row : {a d : Point} → Sized limit a → Sized limit d → Sized differenceSize (row a d)
 sized-row s t = vector (exact (gap s t 0 .within)) (exact (gap s t 1 .within)) (exact (gap s t 2 .within)) .1
 
+-- Each component of a normal is a turn of the three points, in two of the coordinates.
 pub sized-normal : {p q r : Point} → Sized limit p → Sized limit q → Sized limit r → Sized minorSize (normalOf p q r)
-sized-normal {p} {q} {r} a b c =
-    let u : Sized differenceSize (row p r) = sized-row a c in
-    let v : Sized differenceSize (row q r) = sized-row b c in
-    vector (exact (minor-read u v 1 2 .within)) (exact (minor-read u v 2 0 .within)) (exact (minor-read u v 0 1 .within)) .1
+sized-normal a b c = vector (exact (turn-within a b c 1 2)) (exact (turn-within a b c 2 0)) (exact (turn-within a b c 0 1)) .1
+
+-- The same of the minors of two rows as the code holds them.
+pub sized-minors : {v w v′ w′ : Point} → Sized minorSize (minors v′ w′) → v ≡ v′ → w ≡ w′ → Sized minorSize (minors v w)
+sized-minors s e f = subst (λ (n : Point). Sized minorSize n) (λ i. minors (sym e i) (sym f i)) s
+
+-- ---- a sign's own sign
+pub sign-again : (z : ℤ) → sign (sign z) ≡ sign z
+sign-again (pos zero) = refl
+sign-again (pos (suc n)) = refl
+sign-again (negsuc n) = refl
 
 -- ---- what the machine's tests of equality tell
 -- A test of two numbers by their bits is one of the whole numbers.

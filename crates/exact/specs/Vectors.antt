@@ -21,12 +21,13 @@ spatial p = p .x ∷ p .y ∷ p .z ∷ []
 pub record Sized (n : ℕ) (a : Point) : Type 0 where
   pub each : (i : ℕ) → natAbs (coord i a) ≤ n
 
--- The size of a difference of two coordinates of the grid, 2^20, and of a 2 by 2 minor of such differences, 2^41.
+-- The size of a difference of two coordinates of the grid, 2^31, and of a component of a normal, 2^62. That is a turn, the difference of two products of
+-- up to 2^62 each; that it is no larger than one of them is `turn-size` in proofs/TurnSize.antt of crate `shape`.
 abbrev pub differenceSize : ℕ
 differenceSize = limit + limit
 
 abbrev pub minorSize : ℕ
-minorSize = differenceSize * differenceSize + differenceSize * differenceSize
+minorSize = differenceSize * differenceSize
 
 -- The normal of the triangle that fills a list of nine numbers.
 abbrev pub normalIn : List ℤ → Point

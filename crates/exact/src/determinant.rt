@@ -1,5 +1,6 @@
-// The determinants of document 000 at points of the grid, exact in 64 bits. Its functions are the leaves: what is
-// off the grid was refused before one of them is called.
+// The determinants of document 000 at points of the grid: turns and normals in 64 bits, sides in two words of 64. Its functions are the
+// leaves: what is off the grid was refused before one of them is called.
+use wide::Wide;
 ghost use mathlib.Core.Path.{_≡_};
 ghost use Prim.Native.Nat.{_+_, _≤_, _<_};
 ghost use lib.IntN.{pos};
@@ -8,6 +9,7 @@ ghost use Rattle.shape.specs.Points.{pointAt, pointsAt};
 ghost use Rattle.shape.specs.Signs.{turn, side, row, bracket, sign, digit};
 ghost use Rattle.shape.specs.Normals.{minors, dot, normalOf};
 ghost use Rattle.shape.specs.SpaceTest.{level};
+ghost use Rattle.wide.specs.Value.{value};
 ghost use Rattle.exact.specs.Grid.{limit, Ready};
 ghost use Rattle.exact.specs.Vectors.{signNumber, planar, spatial, Sized, differenceSize, minorSize};
 
@@ -86,9 +88,10 @@ fn row_of(a: SpacePoint, d: SpacePoint) -> SpacePoint
     }
 }
 
-// The 2 by 2 minors of two rows, as a vector.
+// The 2 by 2 minors of two rows, as a vector. Each product is at most 2^62 in size; that their differences are too, the caller shows of
+// rows that have a point in common.
 fn minors_of(v: SpacePoint, w: SpacePoint) -> SpacePoint
-    requires { ⌜ Sized differenceSize (spatial v) × Sized differenceSize (spatial w) ⌝ }
+    requires { ⌜ Sized differenceSize (spatial v) × Sized differenceSize (spatial w) × Sized minorSize (minors (spatial v) (spatial w)) ⌝ }
     ensures { λ r. ⌜ (spatial r ≡ minors (spatial v) (spatial w)) × Sized minorSize (spatial r) ⌝ }
 {
     SpacePoint {
@@ -98,12 +101,15 @@ fn minors_of(v: SpacePoint, w: SpacePoint) -> SpacePoint
     }
 }
 
-// The product of a row and the minors of two others.
-fn dot_of(u: SpacePoint, n: SpacePoint) -> i64
+// The product of a row and a normal: three products of up to 2^93 in size, and their sum.
+fn dot_of(u: SpacePoint, n: SpacePoint) -> Wide
     requires { ⌜ Sized differenceSize (spatial u) × Sized minorSize (spatial n) ⌝ }
-    ensures { λ r. ⌜ r ≡ dot (spatial u) (spatial n) ⌝ }
+    ensures { λ r. ⌜ value r ≡ dot (spatial u) (spatial n) ⌝ }
 {
-    u.x * n.x + u.y * n.y + u.z * n.z
+    let x = wide::scaled(n.x, u.x);
+    let y = wide::scaled(n.y, u.y);
+    let z = wide::scaled(n.z, u.z);
+    wide::add(wide::add(x, y), z)
 }
 
 // The normal of the plane of a, b, c: the minors of [a,b,c,X], which are the same for every X. Who asks one plane several times takes them once.
@@ -115,25 +121,25 @@ pub fn normal_at(a: SpacePoint, b: SpacePoint, c: SpacePoint) -> SpacePoint
 }
 
 // The side of d against the plane through c that has this normal.
-fn side_over(c: SpacePoint, normal: SpacePoint, d: SpacePoint) -> i64
+fn side_over(c: SpacePoint, normal: SpacePoint, d: SpacePoint) -> Wide
     requires { ⌜ Sized limit (spatial c) × Sized minorSize (spatial normal) × Sized limit (spatial d) ⌝ }
-    ensures { λ r. ⌜ r ≡ dot (row (spatial c) (spatial d)) (spatial normal) ⌝ }
+    ensures { λ r. ⌜ value r ≡ dot (row (spatial c) (spatial d)) (spatial normal) ⌝ }
 {
     dot_of(row_of(c, d), normal)
 }
 
 // [a,b,c,d], definition 2.2: the determinant whose rows are a - d, b - d, c - d, by the normal of a, b, c.
-pub fn side_at(a: SpacePoint, b: SpacePoint, c: SpacePoint, d: SpacePoint) -> i64
+pub fn side_at(a: SpacePoint, b: SpacePoint, c: SpacePoint, d: SpacePoint) -> Wide
     requires { ⌜ Sized limit (spatial a) × Sized limit (spatial b) × Sized limit (spatial c) × Sized limit (spatial d) ⌝ }
-    ensures { λ r. ⌜ r ≡ side (spatial a) (spatial b) (spatial c) (spatial d) ⌝ }
+    ensures { λ r. ⌜ value r ≡ side (spatial a) (spatial b) (spatial c) (spatial d) ⌝ }
 {
     side_over(c, normal_at(a, b, c), d)
 }
 
 // [a,b,c,d] of the four points in a list.
-pub fn side_of(points: &[i32]) -> i64
+pub fn side_of(points: &[i32]) -> Wide
     requires { ⌜ Ready 12 (now points) ⌝ }
-    ensures { λ r. ⌜ r ≡ bracket (pointsAt 3 4 0 (now (points .entry))) ⌝ }
+    ensures { λ r. ⌜ value r ≡ bracket (pointsAt 3 4 0 (now (points .entry))) ⌝ }
 {
     side_at(
         space_point(points, 0),
@@ -149,7 +155,7 @@ pub enum Sign {
     Positive,
 }
 
-// The sign of a determinant.
+// The sign of a turn.
 pub fn sign_of(z: i64) -> Sign
     ensures { λ r. ⌜ signNumber r ≡ sign z ⌝ }
 {
@@ -162,7 +168,14 @@ pub fn sign_of(z: i64) -> Sign
     }
 }
 
-// The level that a side value tells, by its sign: 0 for -1, 1 for 0, 2 for 1. The tests in space take every sign from here.
+// The sign of a side.
+pub fn wide_sign_of(z: Wide) -> Sign
+    ensures { λ r. ⌜ signNumber r ≡ sign (value z) ⌝ }
+{
+    sign_of(wide::sign(z))
+}
+
+// The level that a number tells, by its sign: 0 for -1, 1 for 0, 2 for 1.
 pub fn level_of(z: i64) -> u32
     ensures { λ r. ⌜ (r ≡ digit (sign z)) × (r ≤ 2) ⌝ }
 {
@@ -173,12 +186,19 @@ pub fn level_of(z: i64) -> u32
     }
 }
 
+// The same of a side. The tests in space take every sign from here.
+fn wide_level_of(z: Wide) -> u32
+    ensures { λ r. ⌜ (r ≡ digit (sign (value z))) × (r ≤ 2) ⌝ }
+{
+    level_of(wide::sign(z))
+}
+
 // The level of d over the plane of a, b, c, by the sign of [a,b,c,d].
 pub fn level_at(a: SpacePoint, b: SpacePoint, c: SpacePoint, d: SpacePoint) -> u32
     requires { ⌜ Sized limit (spatial a) × Sized limit (spatial b) × Sized limit (spatial c) × Sized limit (spatial d) ⌝ }
     ensures { λ r. ⌜ (r ≡ level (spatial a) (spatial b) (spatial c) (spatial d)) × (r ≤ 2) ⌝ }
 {
-    level_of(side_at(a, b, c, d))
+    wide_level_of(side_at(a, b, c, d))
 }
 
 // The level of d over the plane through c that has this normal.
@@ -186,5 +206,5 @@ pub fn level_over(c: SpacePoint, normal: SpacePoint, d: SpacePoint) -> u32
     requires { ⌜ Sized limit (spatial c) × Sized minorSize (spatial normal) × Sized limit (spatial d) ⌝ }
     ensures { λ r. ⌜ (r ≡ digit (sign (dot (row (spatial c) (spatial d)) (spatial normal)))) × (r ≤ 2) ⌝ }
 {
-    level_of(side_over(c, normal, d))
+    wide_level_of(side_over(c, normal, d))
 }

@@ -2,7 +2,7 @@
 // prints is compared with the file `stdout` beside this folder.
 //
 // A table is a text, a line a row: the row's name and a colon, then its lists with a semicolon between them. A line with no colon is a
-// heading. A is (0,0,0) (4,0,0) (0,4,0) in space and (0,0) (4,0) (0,4) in the plane. The grid ends at 524288 and -524288.
+// heading. A is (0,0,0) (4,0,0) (0,4,0) in space and (0,0) (4,0) (0,4) in the plane. The grid ends at 1073741824 and -1073741824.
 use plate::Plate;
 use printing::Call;
 use printing::rows;
@@ -18,7 +18,7 @@ use stories::undo_times;
 ghost use Prim.Native.Nat.{_≤_};
 
 // The end of the grid.
-const L: i32 = 524_288;
+const L: i32 = 1_073_741_824;
 
 const A: [i32; 9] = [0, 0, 0, 4, 0, 0, 0, 4, 0];
 
@@ -35,13 +35,13 @@ fn turns() {
           to the right: 0 0 0 4 4 0\n\
           on a line: 0 0 2 2 5 5\n\
           equal points: 3 -1 3 -1 0 7\n\
-          all at an end of the grid: -524288 -524288 524288 -524288 -524288 524288\n\
+          all at an end of the grid: -1073741824 -1073741824 1073741824 -1073741824 -1073741824 1073741824\n\
           no numbers:\n\
           5 numbers: 0 0 4 0 0\n\
-          7 numbers, the first off the grid: 524289 0 4 0 0 4 0\n\
+          7 numbers, the first off the grid: 1073741825 0 4 0 0 4 0\n\
           12 numbers: 0 0 0 1 0 0 0 1 0 0 0 1\n\
-          positions 2 and 4 off the grid: 0 0 524289 0 -524289 4\n\
-          only the last off the grid: 0 0 4 0 0 -524289\n\
+          positions 2 and 4 off the grid: 0 0 1073741825 0 -1073741825 4\n\
+          only the last off the grid: 0 0 4 0 0 -1073741825\n\
           the ends of 32 bits: -2147483648 2147483647 4 0 0 4\n",
     );
 }
@@ -53,13 +53,20 @@ fn sides() {
         b"Further rows of the side\n\
           (0,0,0) (1,0,0) (0,1,0) (0,0,1): 0 0 0 1 0 0 0 1 0 0 0 1\n\
           in one plane: 0 0 0 1 0 0 0 1 0 5 7 0\n\
-          all at an end of the grid: -524288 -524288 -524288 524288 -524288 -524288 -524288 -524288 524288 -524288 524288 -524288\n\
+          all at an end of the grid: -1073741824 -1073741824 -1073741824 1073741824 -1073741824 -1073741824 -1073741824 -1073741824 1073741824 -1073741824 1073741824 -1073741824\n\
+          the largest: 1073741824 1073741824 -1073741824 1073741824 -1073741824 1073741824 -1073741824 1073741824 1073741824 -1073741824 -1073741824 -1073741824\n\
+          -1, of products of 92 bits: 1035830560 1073741824 -155819706 -1073741824 -1025133157 95863889 -971583400 966142785 -1073741824 937732003 -819454279 955701010\n\
+          1, of the same: -1073741824 -1025133157 95863889 1035830560 1073741824 -155819706 -971583400 966142785 -1073741824 937732003 -819454279 955701010\n\
+          2^64: 4194304 0 0 0 2097152 0 0 0 2097152 0 0 0\n\
+          -2^64: 0 2097152 0 4194304 0 0 0 0 2097152 0 0 0\n\
+          2^64 - 1: 42007935 0 0 0 65537 0 0 0 6700417 0 0 0\n\
+          1 - 2^64: 0 65537 0 42007935 0 0 0 0 6700417 0 0 0\n\
           no numbers:\n\
           6 numbers: 0 0 4 0 0 4\n\
           11 numbers: 0 0 0 1 0 0 0 1 0 0 0\n\
-          13 numbers, the last off the grid: 0 0 0 1 0 0 0 1 0 0 0 1 524289\n\
-          positions 3, 7 and 11 off the grid: 0 0 0 -524289 0 0 0 524289 0 0 0 524289\n\
-          only the last off the grid: 0 0 0 1 0 0 0 1 0 0 0 524289\n",
+          13 numbers, the last off the grid: 0 0 0 1 0 0 0 1 0 0 0 1 1073741825\n\
+          positions 3, 7 and 11 off the grid: 0 0 0 -1073741825 0 0 0 1073741825 0 0 0 1073741825\n\
+          only the last off the grid: 0 0 0 1 0 0 0 1 0 0 0 1073741825\n",
     );
 }
 
@@ -75,15 +82,15 @@ fn flats() {
           a corner one past the edge: 0 0 4 0 0 4; 3 2 5 2 5 5\n\
           inside, both turning right: 0 0 0 4 4 0; 1 1 1 2 2 1\n\
           from end to end of the grid, across: \
-          -524288 -524288 524288 524288 -524288 524288; 524288 -524288 -524288 524288 -524288 -524288\n\
-          from end to end of the grid, apart: -524288 -524288 524288 -524288 -524288 524288; 524288 524288 1 524288 524288 1\n\
+          -1073741824 -1073741824 1073741824 1073741824 -1073741824 1073741824; 1073741824 -1073741824 -1073741824 1073741824 -1073741824 -1073741824\n\
+          from end to end of the grid, apart: -1073741824 -1073741824 1073741824 -1073741824 -1073741824 1073741824; 1073741824 1073741824 1 1073741824 1073741824 1\n\
           Refusals of the flat test\n\
           no numbers; no numbers: ;\n\
           A; 5 numbers: 0 0 4 0 0 4; 0 0 4 0 0\n\
-          off the grid; 9 numbers: 524289 0 4 0 0 4; 0 0 0 4 0 0 0 4 0\n\
-          off the grid and flat; A: 0 0 0 0 524289 0; 0 0 4 0 0 4\n\
-          flat; off the grid: 0 0 0 0 4 0; -524289 0 4 0 0 4\n\
-          A; positions 3 and 5 off the grid: 0 0 4 0 0 4; 0 0 4 -524289 0 524289\n\
+          off the grid; 9 numbers: 1073741825 0 4 0 0 4; 0 0 0 4 0 0 0 4 0\n\
+          off the grid and flat; A: 0 0 0 0 1073741825 0; 0 0 4 0 0 4\n\
+          flat; off the grid: 0 0 0 0 4 0; -1073741825 0 4 0 0 4\n\
+          A; positions 3 and 5 off the grid: 0 0 4 0 0 4; 0 0 4 -1073741825 0 1073741825\n\
           A; flat: 0 0 4 0 0 4; 5 5 1 1 3 3\n",
     );
 }
@@ -98,11 +105,11 @@ fn pairs() {
           in one upright plane, one inside the other: 5 0 0 5 9 0 5 0 9; 5 1 1 5 2 1 5 1 2\n\
           in one upright plane, apart: 0 5 0 4 5 0 0 5 4; 3 5 3 5 5 3 3 5 5\n\
           from end to end of the grid, one point in common: \
-          -524288 -524288 -524288 524288 524288 524288 524288 -524288 0; 0 0 0 -524288 524288 524288 -524288 524288 -524288\n\
+          -1073741824 -1073741824 -1073741824 1073741824 1073741824 1073741824 1073741824 -1073741824 0; 0 0 0 -1073741824 1073741824 1073741824 -1073741824 1073741824 -1073741824\n\
           no numbers; no numbers: ;\n\
-          off the grid; 6 numbers: 524289 0 0 4 0 0 0 4 0; 0 0 0 4 0 0\n\
-          flat and off the grid; off the grid: 0 0 0 4 0 0 524289 0 0; 0 0 0 4 0 0 0 4 524289\n\
-          flat; off the grid: 0 0 0 4 0 0 8 0 0; 0 0 0 4 0 0 0 4 524289\n",
+          off the grid; 6 numbers: 1073741825 0 0 4 0 0 0 4 0; 0 0 0 4 0 0\n\
+          flat and off the grid; off the grid: 0 0 0 4 0 0 1073741825 0 0; 0 0 0 4 0 0 0 4 1073741825\n\
+          flat; off the grid: 0 0 0 4 0 0 8 0 0; 0 0 0 4 0 0 0 4 1073741825\n",
     );
 }
 
@@ -143,7 +150,7 @@ fn wires_and_points() {
           one step over each other: 0 0 0 4 4 4 2 2 2; 4 0 3 0 4 3 1 3 3\n\
           in one plane, one past the other's end: 0 0 0 4 4 4 2 2 2; 6 4 5 4 6 5 5 5 5\n\
           from end to end of the grid, across: \
-          -524288 -524288 -524288 524288 524288 524288 0 0 0; -524288 524288 524288 524288 -524288 -524288 524288 -524288 -524288\n",
+          -1073741824 -1073741824 -1073741824 1073741824 1073741824 1073741824 0 0 0; -1073741824 1073741824 1073741824 1073741824 -1073741824 -1073741824 1073741824 -1073741824 -1073741824\n",
     );
 }
 
@@ -162,7 +169,7 @@ fn segments() {
           over a wire: 1 1 1 1 1 3; 0 0 0 2 2 0 1 1 0\n\
           equal ends; the same point: 3 2 1 3 2 1; 3 2 1 3 2 1 3 2 1\n\
           A; a segment: 0 0 0 4 0 0 0 4 0; 1 1 -1 1 1 1\n\
-          equal ends off the grid; A: 0 0 524289 0 0 524289; 0 0 0 4 0 0 0 4 0\n",
+          equal ends off the grid; A: 0 0 1073741825 0 0 1073741825; 0 0 0 4 0 0 0 4 0\n",
     );
 }
 
@@ -182,11 +189,11 @@ fn lists() {
           Refusals of the listing\n\
           8 numbers; 10 numbers, start 8: 0 0 0 4 0 0 0 4; 0 0 0 4 0 0 0 4 0 1; 8\n\
           8 numbers; 10 numbers: 0 0 0 4 0 0 0 4; 0 0 0 4 0 0 0 4 0 1; 0\n\
-          off the grid; 10 numbers: 0 0 0 524289 0 0 0 4 0; 0 0 0 4 0 0 0 4 0 1; 0\n\
-          flat, then off the grid: 0 0 0 4 0 0 8 0 0 0 0 0 524289 0 0 0 4 0; 0 0 0 4 0 0 0 4 0; 0\n\
-          fine, then positions 14 and 16 off the grid: 0 0 0 4 0 0 0 4 0 1 1 1 2 1 524289 1 524289 1; 0 0 0 4 0 0 0 4 0; 0\n\
-          flat; off the grid: 0 0 0 4 0 0 8 0 0; 0 0 0 4 0 0 0 4 524289; 0\n\
-          too little room; off the grid: 0 0 0 4 0 0 0 4 0; 0 0 0 4 0 0 0 4 524289; 7\n",
+          off the grid; 10 numbers: 0 0 0 1073741825 0 0 0 4 0; 0 0 0 4 0 0 0 4 0 1; 0\n\
+          flat, then off the grid: 0 0 0 4 0 0 8 0 0 0 0 0 1073741825 0 0 0 4 0; 0 0 0 4 0 0 0 4 0; 0\n\
+          fine, then positions 14 and 16 off the grid: 0 0 0 4 0 0 0 4 0 1 1 1 2 1 1073741825 1 1073741825 1; 0 0 0 4 0 0 0 4 0; 0\n\
+          flat; off the grid: 0 0 0 4 0 0 8 0 0; 0 0 0 4 0 0 0 4 1073741825; 0\n\
+          too little room; off the grid: 0 0 0 4 0 0 0 4 0; 0 0 0 4 0 0 0 4 1073741825; 7\n",
     );
 }
 
@@ -218,8 +225,8 @@ fn place_list_refusals(plate: Plate) {
     place_rows(
         plate,
         b"a filled slot, no numbers: 63 0;\n\
-          a filled slot, 10 numbers, the first off the grid: 63 0; 524289 0 0 4 0 0 0 4 0 0\n\
-          a filled slot, flat, positions 3 and 6 off the grid: 63 0; 0 0 0 524289 0 0 -524289 0 0\n\
+          a filled slot, 10 numbers, the first off the grid: 63 0; 1073741825 0 0 4 0 0 0 4 0 0\n\
+          a filled slot, flat, positions 3 and 6 off the grid: 63 0; 0 0 0 1073741825 0 0 -1073741825 0 0\n\
           a filled slot, flat: 63 0; 0 0 0 1 1 1 2 2 2\n\
           a filled slot: 63 0; 0 0 0 4 0 0 0 4 0\n\
           A in slot 0 as part 15: 0 15; 0 0 0 4 0 0 0 4 0\n\
@@ -271,6 +278,14 @@ fn shift_end_refusals(plate: Plate) -> Plate {
     shift_row(b, 4, 0, 0, -2147483648)
 }
 
+// From one end of the grid to the other: the longest move that there is, and its way back, which no 32-bit number holds.
+fn shift_across() {
+    let a = placed(plate::empty(), 0, 6, &[0, 0, L, 4, 0, L, 0, 4, L]);
+    let b = shift_row(a, 6, 0, 0, -2147483648);
+    let c = undo_row(b);
+    shift_row(c, 6, 0, 0, 1);
+}
+
 // Moves that are served: by nothing, and to the end of the grid, where part 2 leaves the triangle of part 4 with slot 5 and meets it
 // with slots 7 and 9. One further is refused.
 fn shifts() {
@@ -280,6 +295,7 @@ fn shifts() {
     let b = shift_row(a, 2, -L, 0, 0);
     let c = shift_row(b, 2, -1, 0, 0);
     undo_row(c);
+    shift_across();
     say(b"Undo of the empty plate\n");
     undo_row(plate::empty());
 }

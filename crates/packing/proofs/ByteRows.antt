@@ -13,7 +13,7 @@ pub minus-one-row : numbersIn 1 (255 ∷ 255 ∷ 255 ∷ 255 ∷ []) ≡ negsuc 
 unfolding numbersIn
 minus-one-row = refl
 
-pub grid-rows : numbersIn 2 (0 ∷ 0 ∷ 8 ∷ 0 ∷ 0 ∷ 0 ∷ 248 ∷ 255 ∷ []) ≡ pos 524288 ∷ negsuc 524287 ∷ []
+pub grid-rows : numbersIn 2 (0 ∷ 0 ∷ 0 ∷ 64 ∷ 0 ∷ 0 ∷ 0 ∷ 192 ∷ []) ≡ pos 1073741824 ∷ negsuc 1073741823 ∷ []
 unfolding numbersIn
 grid-rows = refl
 

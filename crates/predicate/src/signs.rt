@@ -1,19 +1,21 @@
 // The public sign calls, and the determinants behind them. Three flat points are six numbers, four space points twelve.
 use crate::answer::SignAnswer;
 use crate::answer::ValueAnswer;
+use crate::answer::WideAnswer;
 use checks::Checked;
 use checks::grid_checked;
 use checks::length_checked;
 use exact::side_of;
 use exact::sign_of;
 use exact::turn_of;
+use exact::wide_sign_of;
 ghost use mathlib.Core.Path.{_≡_};
 ghost use Rattle.shape.specs.Signs.{sign};
 ghost use Rattle.checks.specs.Answers.{_then_, withServed};
 ghost use Rattle.checks.specs.Rules.{rightLength, allOnGrid};
 ghost use Rattle.predicate.specs.Rules.{valueRule, signRule};
 ghost use Rattle.checks.specs.Told.{toldCheck};
-ghost use Rattle.predicate.specs.Told.{toldValue, toldSign};
+ghost use Rattle.predicate.specs.Told.{toldValue, toldWide, LowWord, toldSign};
 
 // The refusals of a sign call: 3, then 1.
 fn points_checked(want: usize, numbers: &[i32]) -> Checked
@@ -35,13 +37,13 @@ pub fn turn_value(points: &[i32]) -> ValueAnswer
     }
 }
 
-// The determinant of four space points.
-pub fn side_value(points: &[i32]) -> ValueAnswer
-    ensures { λ r. ⌜ toldValue r ≡ valueRule 3 (now (points .entry)) ⌝ }
+// The determinant of four space points, as the one whole number that its two words stand for.
+pub fn side_value(points: &[i32]) -> WideAnswer
+    ensures { λ r. ⌜ (toldWide r ≡ valueRule 3 (now (points .entry))) × LowWord r ⌝ }
 {
     match points_checked(12, points) {
-        Checked::Refused(why) => ValueAnswer::Refused(why),
-        Checked::Fine => ValueAnswer::Valued(side_of(points)),
+        Checked::Refused(why) => WideAnswer::Refused(why),
+        Checked::Fine => WideAnswer::Valued(side_of(points)),
     }
 }
 
@@ -52,6 +54,15 @@ fn signed(value: ValueAnswer) -> SignAnswer
     match value {
         ValueAnswer::Refused(why) => SignAnswer::Refused(why),
         ValueAnswer::Valued(z) => SignAnswer::Signed(sign_of(z)),
+    }
+}
+
+fn wide_signed(value: WideAnswer) -> SignAnswer
+    ensures { λ r. ⌜ toldSign r ≡ withServed sign (toldWide value) ⌝ }
+{
+    match value {
+        WideAnswer::Refused(why) => SignAnswer::Refused(why),
+        WideAnswer::Valued(z) => SignAnswer::Signed(wide_sign_of(z)),
     }
 }
 
@@ -66,5 +77,5 @@ pub fn turn_sign(points: &[i32]) -> SignAnswer
 pub fn side_sign(points: &[i32]) -> SignAnswer
     ensures { λ r. ⌜ toldSign r ≡ signRule 3 (now (points .entry)) ⌝ }
 {
-    signed(side_value(points))
+    wide_signed(side_value(points))
 }

@@ -1,40 +1,46 @@
--- `exact::determinant::dot_of` meets its contract: no step overflows, and the result is the product of the two vectors.
--- Assumes nothing.
-use mir.Syntax.{w64}
-use Rattle.algebra.proofs.Machine.{in-range, held}
-use Rattle.exact.proofs.Readings.{times, two-products, three-products}
+-- `exact::determinant::dot_of` meets its contract: both sums fit two words, and the result is the product of the two vectors. Assumes nothing.
+use mathlib.Core.Path.{_∙_}
+use Rattle.exact.proofs.Products.{factor-small, two-products, three-products, small}
 use Rattle.exact.proofs.determinant.dot_of.Statement.{statement}
 use Rattle.exact.proofs.determinant.dot_of.Tie as tie
 
-mul-result : tie.Need-mul-result
-mul-result c =
-    let p = c .before .before .before .before .pre in
-    in-range (times tt tt (p .0) (p .1) 0 0) tt
+scaled-requires : tie.Need-scaled-requires
+scaled-requires c κs =
+    let p = c .before .before .pre in
+    factor-small (p .0) (p .1) 0
 
-mul-result-2 : tie.Need-mul-result-2
-mul-result-2 c =
+scaled-requires-2 : tie.Need-scaled-requires-2
+scaled-requires-2 c κs =
+    let p = c .before .before .before .before .before .pre in
+    factor-small (p .0) (p .1) 1
+
+scaled-requires-3 : tie.Need-scaled-requires-3
+scaled-requires-3 c κs =
     let p = c .before .before .before .before .before .before .before .before .pre in
-    in-range (times tt tt (p .0) (p .1) 1 1) tt
+    factor-small (p .0) (p .1) 2
 
-add-result : tie.Need-add-result
-add-result c =
-    let p = c .before .before .before .before .before .before .before .before .pre in
-    in-range (two-products (p .0) (p .1)) tt
+add-requires : tie.Need-add-requires
+add-requires c κs =
+    let p = c .before .before .before .before .before .before .before .before .before .pre in
+    let x = c .before .before .before .before .before .before .scaled .ensures in
+    let y = c .before .before .before .scaled2 .ensures in
+    small (two-products (p .0) (p .1) 0 1 x y) tt
 
-mul-result-3 : tie.Need-mul-result-3
-mul-result-3 c =
-    let p = c .before .before .before .before .before .before .before .before .before .before .before .before .pre in
-    in-range (times tt tt (p .0) (p .1) 2 2) tt
-
-add-result-2 : tie.Need-add-result-2
-add-result-2 c =
-    let p = c .before .before .before .before .before .before .before .before .before .before .before .before .pre in
-    in-range (three-products (p .0) (p .1)) tt
+add-requires-2 : tie.Need-add-requires-2
+add-requires-2 c κs =
+    let p = c .before .before .before .before .before .before .before .before .before .before .pre in
+    let x = c .before .before .before .before .before .before .before .scaled .ensures in
+    let y = c .before .before .before .before .scaled2 .ensures in
+    let z = c .before .scaled3 .ensures in
+    small (three-products (p .0) (p .1) 0 1 x y 2 z (c .add .ensures)) tt
 
 returns : tie.Need-returns
 returns c =
-    let p = c .before .before .before .before .before .before .before .before .before .before .before .before .pre in
-    held w64 (three-products (p .0) (p .1)) tt .is
+    let p = c .before .before .before .before .before .before .before .before .before .before .before .pre in
+    let x = c .before .before .before .before .before .before .before .before .scaled .ensures in
+    let y = c .before .before .before .before .before .scaled2 .ensures in
+    let z = c .before .before .scaled3 .ensures in
+    c .add2 .ensures ∙ three-products (p .0) (p .1) 0 1 x y 2 z (c .before .add .ensures) .is
 
 pub dot-of-spec : {M : Type 1} → statement M
-dot-of-spec = tie.close (tie.spec mul-result mul-result-2 add-result mul-result-3 add-result-2 returns)
+dot-of-spec = tie.close (tie.spec scaled-requires scaled-requires-2 scaled-requires-3 add-requires add-requires-2 returns)

@@ -2,8 +2,6 @@
 use mathlib.Core.Path.{ap, _∙_}
 use borrow.Author.Needs.{needs}
 use lib.IntN.{ℤ}
-use mir.Syntax.{w64}
-use Rattle.algebra.proofs.Machine.{returned}
 use Rattle.shape.specs.Signs.{sign, digit}
 use Rattle.exact.proofs.determinant.level_over.Statement.{statement}
 use Rattle.exact.proofs.determinant.level_over.Tie as tie
@@ -11,13 +9,13 @@ use Rattle.exact.proofs.determinant.level_over.Tie as tie
 side-over-requires : tie.Need-side-over-requires
 side-over-requires c κs = search needs
 
-level-of-requires : tie.Need-level-of-requires
-level-of-requires c κs = search needs
+wide-level-of-requires : tie.Need-wide-level-of-requires
+wide-level-of-requires c κs = search needs
 
 returns : tie.Need-returns
 returns c =
     let s = c .before .side-over in
-    (c .level-of .ensures .0 ∙ ap (λ (z : ℤ). digit (sign z)) (returned w64 (s .ok) (s .ensures)), c .level-of .ensures .1)
+    (c .wide-level-of .ensures .0 ∙ ap (λ (z : ℤ). digit (sign z)) (s .ensures), c .wide-level-of .ensures .1)
 
 pub level-over-spec : {M : Type 1} → statement M
-level-over-spec = tie.close (tie.spec side-over-requires level-of-requires returns)
+level-over-spec = tie.close (tie.spec side-over-requires wide-level-of-requires returns)

@@ -2,6 +2,7 @@
 use mathlib.Core.Path.{_∙_}
 use borrow.Author.Needs.{needs}
 use Rattle.shape.specs.Normals.{minors}
+use Rattle.exact.proofs.Readings.{sized-normal, sized-minors}
 use Rattle.exact.proofs.determinant.normal_at.Statement.{statement}
 use Rattle.exact.proofs.determinant.normal_at.Tie as tie
 
@@ -12,7 +13,11 @@ row-of-requires-2 : tie.Need-row-of-requires-2
 row-of-requires-2 c κs = search needs
 
 minors-of-requires : tie.Need-minors-of-requires
-minors-of-requires c κs = search needs
+minors-of-requires c κs =
+    let v = c .before .row-of .ensures in
+    let w = c .row-of2 .ensures in
+    let p = c .before .before .pre in
+    (v .1, w .1, sized-minors (sized-normal (p .0) (p .1) (p .2)) (v .0) (w .0))
 
 returns : tie.Need-returns
 returns c =

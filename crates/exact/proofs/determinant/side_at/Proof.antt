@@ -1,8 +1,6 @@
 -- `exact::determinant::side_at` meets its contract: the side over the plane's normal is the determinant. Assumes nothing.
 use mathlib.Core.Path.{ap, _∙_}
 use borrow.Author.Needs.{needs}
-use mir.Syntax.{w64}
-use Rattle.algebra.proofs.Machine.{returned}
 use Rattle.shape.specs.Signs.{row}
 use Rattle.shape.specs.Normals.{dot}
 use Rattle.shape.proofs.Planes.{side-by-normal}
@@ -19,7 +17,7 @@ side-over-requires c κs = search needs
 returns : tie.Need-returns
 returns c =
     let p = c .before .before .args in
-    returned w64 (c .side-over .ok) (c .side-over .ensures)
+    c .side-over .ensures
     ∙ ap (dot (row (spatial (p .c)) (spatial (p .d)))) (c .before .normal-at .ensures .0)
     ∙ side-by-normal (spatial (p .a)) (spatial (p .b)) (spatial (p .c)) (spatial (p .d))
 

@@ -1,8 +1,6 @@
 -- `exact::determinant::side_over` meets its contract: the product of the row and the normal. Assumes nothing.
 use mathlib.Core.Path.{ap, _∙_}
 use borrow.Author.Needs.{needs}
-use mir.Syntax.{w64}
-use Rattle.algebra.proofs.Machine.{returned}
 use Rattle.shape.specs.Points.{Point}
 use Rattle.shape.specs.Normals.{dot}
 use Rattle.exact.specs.Vectors.{spatial}
@@ -18,7 +16,7 @@ dot-of-requires c κs = search needs
 returns : tie.Need-returns
 returns c =
     let p = c .before .before .args in
-    returned w64 (c .dot-of .ok) (c .dot-of .ensures) ∙ ap (λ (u : Point). dot u (spatial (p .normal))) (c .before .row-of .ensures .0)
+    c .dot-of .ensures ∙ ap (λ (u : Point). dot u (spatial (p .normal))) (c .before .row-of .ensures .0)
 
 pub side-over-spec : {M : Type 1} → statement M
 side-over-spec = tie.close (tie.spec row-of-requires dot-of-requires returns)
