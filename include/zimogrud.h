@@ -18,7 +18,7 @@
  *     zg_plate     calls on a plate: told below, at its declaration, with what it answers
  *     zg_sheet     a job sheet, which is bytes: told below, at its declaration, with what it answers
  *
- * Every number should lie from -ZG_LIMIT to ZG_LIMIT (524288), ends included. Yet any numbers and any lengths may be given.
+ * Every number should lie from -ZG_LIMIT to ZG_LIMIT (1073741824), ends included. Yet any numbers and any lengths may be given.
  * What can't be served is refused.
  *
  * What comes out, of all but zg_pair_bytes, zg_plate and zg_sheet. ZG_ANSWER_LENGTH (4) numbers are written to the front of
@@ -41,7 +41,7 @@
  * there is no room, and the call serves where there is no pair.
  *
  *     refusal                  given where                                                 place
- *     ZG_OFF_GRID          1   a number is below -524288 or above 524288                   its position in that list, from 0
+ *     ZG_OFF_GRID          1   a number is below -1073741824 or above 1073741824           its position in that list, from 0
  *     ZG_FLAT_SHAPE        2   a triangle is flat (zg_flat, and a place on a plate)        0
  *     ZG_WRONG_LENGTH      3   a list has the wrong length                                 its length
  *     ZG_START_BEYOND_END  4   `start` is above the buffer's length (zg_list)              the buffer's length
@@ -72,7 +72,7 @@
 /* ---- The names. All are of type int, and fit the arrays and the results that they are compared with. ---- */
 
 /* Coordinates, how many numbers the lists have, and how many bytes a triangle takes. */
-#define ZG_LIMIT 524288
+#define ZG_LIMIT 1073741824
 #define ZG_TURN_LENGTH 6
 #define ZG_SIDE_LENGTH 12
 #define ZG_FLAT_TRIANGLE_LENGTH 6

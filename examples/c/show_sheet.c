@@ -70,6 +70,10 @@ static unsigned next_number(struct answer *answer)
 
 /* ---- Showing ---- */
 
+/* A number that the header names, as text. */
+#define AS_TEXT(number) #number
+#define WRITTEN(number) AS_TEXT(number)
+
 static const struct kind *kind_of(unsigned tag)
 {
     for (size_t i = 0; i < KIND_COUNT; i++)
@@ -81,7 +85,7 @@ static const struct kind *kind_of(unsigned tag)
 static const char *words_of(unsigned refusal)
 {
     switch (refusal) {
-    case ZG_OFF_GRID: return "a coordinate is off the grid (-524288 to 524288)";
+    case ZG_OFF_GRID: return "a coordinate is off the grid (-" WRITTEN(ZG_LIMIT) " to " WRITTEN(ZG_LIMIT) ")";
     case ZG_FLAT_SHAPE: return "the triangle is flat: its corners lie on one line";
     case ZG_NO_SUCH_SLOT: return "there is no such slot (0 to 63)";
     case ZG_NO_SUCH_PART: return "there is no such part (0 to 15)";
