@@ -2,8 +2,9 @@
 //! `zg_pair`, and times the two, on the same pairs as `verdicts` times `zg_pair`.
 
 use crate::door;
-use crate::inputs::{self, bytes_of, Input, Pair};
+use crate::inputs::{self, bytes_of, Pair, PairsInput};
 use crate::ordinary::TRIANGLE_NUMBERS;
+use crate::scaling::compare_scaled;
 use crate::timing::{best_of, last_line, say};
 use crate::verdicts::{time_for, FAULTY_PAIRS_SEED, PAIRS_SEEDS, ROUNDS};
 
@@ -34,17 +35,24 @@ pub fn compare() -> Result<String, String> {
 
 // ---- The comparison ----
 
-fn compare_all(inputs: &[Input<TRIANGLE_NUMBERS>]) -> Result<(), String> {
-    for pair in inputs.iter().flat_map(|input| &input.pairs) {
-        compare_answers(&pair.first, &pair.second)?;
-    }
+fn compare_all(inputs: &[PairsInput<TRIANGLE_NUMBERS>]) -> Result<(), String> {
+    let agreed = inputs.iter().map(|input| agreed_answers(&input.content));
+    let answers: Vec<Vec<u32>> = agreed.collect::<Result<_, _>>()?;
     for [first, second] in inputs::faulty::<TRIANGLE_NUMBERS>(FAULTY_PAIRS_SEED) {
-        compare_answers(&first, &second)?;
+        agreed_answer(&first, &second)?;
     }
-    Ok(())
+    compare_scaled(inputs, &answers)
 }
 
-fn compare_answers(first: &[i32], second: &[i32]) -> Result<(), String> {
+fn agreed_answers(pairs: &[NumberPair]) -> Result<Vec<u32>, String> {
+    pairs
+        .iter()
+        .map(|pair| agreed_answer(&pair.first, &pair.second))
+        .collect()
+}
+
+/// The door's answer, if it is that of `zg_pair`.
+fn agreed_answer(first: &[i32], second: &[i32]) -> Result<u32, String> {
     let door = door::pair_bytes(&bytes_of(first), &bytes_of(second));
     let pair = door::pair(first, second);
     let wanted = match pair.number {
@@ -52,7 +60,7 @@ fn compare_answers(first: &[i32], second: &[i32]) -> Result<(), String> {
         number => REFUSED + number,
     };
     if u64::from(door) == wanted {
-        Ok(())
+        Ok(door)
     } else {
         Err(format!(
             "the answers on bytes differ:\n  first {first:?}\n  second {second:?}\n  door {door}\n  zg_pair {pair:?}"
@@ -63,12 +71,12 @@ fn compare_answers(first: &[i32], second: &[i32]) -> Result<(), String> {
 // ---- The times ----
 
 /// Times one input, prints its line and gives the door's ratio.
-fn timed_ratio(input: &Input<TRIANGLE_NUMBERS>) -> f64 {
-    let byte_pairs: Vec<BytePair> = input.pairs.iter().map(as_bytes).collect();
+fn timed_ratio(input: &PairsInput<TRIANGLE_NUMBERS>) -> f64 {
+    let byte_pairs: Vec<BytePair> = input.content.iter().map(as_bytes).collect();
     let [door, pair] = best_of(ROUNDS, || {
         [
             time_for(&byte_pairs, &door::pair_bytes),
-            time_for(&input.pairs, &door::pair),
+            time_for(&input.content, &door::pair),
         ]
     });
     let ratio = door / pair;

@@ -3,6 +3,9 @@
 //! these kinds, of surfaces, of triangles whose boxes all overlap, and of triangles of all sizes; the
 //! plates' inputs, in `plates`, of calls about such triangles as the pairs have, and about closed shells;
 //! and the sheets' inputs, in `sheets`, of fields about such triangles.
+//!
+//! What is timed is drawn within NARROW, as it was when that was the end of the grid, and made larger by
+//! `scaling`. What is faulty is about the ends of the grid that there is.
 
 pub mod lists;
 mod overlapping;
@@ -10,8 +13,9 @@ pub mod plates;
 pub mod sheets;
 mod surfaces;
 
-use crate::ordinary::{has_area, GRID, TRIANGLE_NUMBERS};
+use crate::ordinary::{has_area, GRID, NARROW, TRIANGLE_NUMBERS};
 use crate::random::Random;
+use crate::scaling::{as_it_is, on_both_scales, scaled_number, Input};
 
 /// This many of each kind.
 const PAIRS: usize = 20_000;
@@ -28,27 +32,27 @@ pub struct Pair<const N: usize, const M: usize = TRIANGLE_NUMBERS, Number = i32>
     pub second: [Number; M],
 }
 
-/// Pairs of one kind, of which no triangle is flat.
-pub struct Input<const N: usize> {
-    pub name: &'static str,
-    pub pairs: Vec<Pair<N>>,
+impl<const N: usize> Pair<N> {
+    fn scaled(&self, scale: i32) -> Pair<N> {
+        Pair {
+            first: self.first.map(|number| scaled_number(number, scale)),
+            second: self.second.map(|number| scaled_number(number, scale)),
+        }
+    }
 }
 
-pub fn timed<const N: usize>(seeds: [u64; 3]) -> [Input<N>; 3] {
-    [
-        Input {
-            name: "random over the whole grid",
-            pairs: pairs_with_area(seeds[0], |random| box_pair(random, -GRID, GRID)),
-        },
-        Input {
-            name: "small and spread over the grid",
-            pairs: pairs_with_area(seeds[1], small_pair),
-        },
-        Input {
-            name: "a tiny grid, many touching or in one plane",
-            pairs: pairs_with_area(seeds[2], tiny_pair),
-        },
-    ]
+/// Pairs of one kind, of which no triangle is flat.
+pub type PairsInput<const N: usize> = Input<Vec<Pair<N>>>;
+
+pub fn timed<const N: usize>(seeds: [u64; 3]) -> Vec<PairsInput<N>> {
+    let random = pairs_with_area(seeds[0], |random| box_pair(random, -NARROW, NARROW));
+    let small = pairs_with_area(seeds[1], small_pair);
+    let tiny = pairs_with_area(seeds[2], tiny_pair);
+    let scaled = |pairs: &[Pair<N>], scale| pairs.iter().map(|pair| pair.scaled(scale)).collect();
+    let mut inputs = on_both_scales("random", |scale| scaled(&random, scale));
+    inputs.extend(on_both_scales("small and spread", |scale| scaled(&small, scale)));
+    inputs.extend(as_it_is("a tiny grid, many touching or in one plane", tiny));
+    inputs
 }
 
 fn pairs_with_area<const N: usize>(seed: u64, any_pair: impl Fn(&mut Random) -> Pair<N>) -> Vec<Pair<N>> {
@@ -70,7 +74,7 @@ fn box_pair<const N: usize>(random: &mut Random, low: i32, high: i32) -> Pair<N>
     }
 }
 
-/// Each shape has its corners near a point anywhere on the grid.
+/// Each shape has its corners near a point anywhere within NARROW.
 fn small_pair<const N: usize>(random: &mut Random) -> Pair<N> {
     let mut pair = box_pair(random, -SMALL_HALF, SMALL_HALF);
     spread(random, SMALL_HALF, &mut pair.first);
@@ -78,9 +82,9 @@ fn small_pair<const N: usize>(random: &mut Random) -> Pair<N> {
     pair
 }
 
-/// Moves a shape, whose corners lie at most `half` from the middle of the grid, to anywhere on it.
+/// Moves a shape, whose corners lie at most `half` from the middle of the grid, to anywhere within NARROW.
 fn spread(random: &mut Random, half: i32, list: &mut [i32]) {
-    let end = GRID - half;
+    let end = NARROW - half;
     let middle = [0; 3].map(|_| random.between(-end, end));
     for (place, number) in list.iter_mut().enumerate() {
         *number += middle[place % 3];
@@ -125,15 +129,19 @@ fn faulty_list<const N: usize>(random: &mut Random) -> Vec<i32> {
     list
 }
 
-/// The last corner is often the first.
 fn faulty_shape<const N: usize>(random: &mut Random) -> [i32; N] {
+    shape_about(random, GRID)
+}
+
+/// Some numbers lie at this end of a grid, or beyond. The last corner is often the first.
+fn shape_about<const N: usize>(random: &mut Random, end: i32) -> [i32; N] {
     let mut list = box_list(random, 0, TINY_END);
     if random.once_in(4) {
         list.copy_within(0..3, N - 3);
     }
     for _ in 0..random.below(3) {
         let place = random.index(list.len());
-        list[place] = random.pick(&[GRID, GRID + 1, -GRID, -GRID - 1, i32::MAX, i32::MIN]);
+        list[place] = random.pick(&[end, end + 1, -end, -end - 1, i32::MAX, i32::MIN]);
     }
     list
 }

@@ -2,9 +2,10 @@
 //! and times both.
 
 use crate::door;
-use crate::inputs::lists::{self, Input, Question};
-use crate::ordinary::{listing, Answer, TRIANGLE_NUMBERS};
-use crate::timing::{best_of, last_line, nanoseconds_each, say};
+use crate::inputs::lists::{self, Listed, Question};
+use crate::ordinary::{is_narrow, listing, Answer, TRIANGLE_NUMBERS};
+use crate::scaling::{compare_scaled, Input};
+use crate::timing::{best_of, last_line, nanoseconds_each, narrow_time, say, told_narrow, GOAL};
 use std::hint::black_box;
 
 /// A listing is long, so fewer rounds do than for the pairs.
@@ -13,10 +14,14 @@ const ROUNDS: usize = 15;
 const UNWRITTEN: u32 = u32::MAX;
 /// A list with more numbers is not printed.
 const LONG: usize = 100;
+/// The numbers of a buffer in front of the pairs, where the contenders are compared.
+const START: usize = 3;
 
 type Contender = fn(&[i32], &[i32], &mut [u32], usize) -> Answer;
 /// The two lists of a call.
 type Lists<'a> = [&'a [i32]; 2];
+/// The numbers that a call writes: two for each pair that it finds.
+type Found = Vec<u32>;
 
 /// Compares without timing. The last line to print; it is an error where two answers or buffers differ.
 pub fn compare() -> Result<String, String> {
@@ -28,74 +33,79 @@ pub fn compare() -> Result<String, String> {
 /// to be reached and one is not.
 pub fn compare_and_time(goals: bool) -> Result<String, String> {
     let inputs = lists::timed();
-    let counts = agreed_inputs(&inputs)?;
+    let found = agreed_inputs(&inputs)?;
     let reached = inputs
         .iter()
-        .zip(counts)
-        .filter(|(input, counts)| timed_ratio(input, counts) <= input.goal)
+        .zip(found)
+        .filter(|(input, found)| timed_ratio(input, found) <= GOAL)
         .count();
     last_line("listings", reached, inputs.len(), goals)
 }
 
 // ---- The comparison ----
 
-/// How many pairs of each call of each input meet, if all contenders agree, on faulty inputs too.
-fn agreed_inputs(inputs: &[Input]) -> Result<Vec<Vec<usize>>, String> {
+/// What each call of each input finds, if all contenders agree, on faulty inputs and on both scales too.
+fn agreed_inputs(inputs: &[Input<Listed>]) -> Result<Vec<Vec<Found>>, String> {
     for question in lists::faulty() {
-        agreed_answer(&question)?;
+        agreed_outcome(&question)?;
     }
-    inputs.iter().map(agreed_counts).collect()
+    let found: Vec<Vec<Found>> = inputs.iter().map(agreed_calls).collect::<Result<_, _>>()?;
+    compare_scaled(inputs, &found)?;
+    Ok(found)
 }
 
-/// How many pairs of each call of an input meet, if all contenders agree.
-fn agreed_counts(input: &Input) -> Result<Vec<usize>, String> {
-    let counts = input.calls().into_iter().map(agreed_count);
-    counts
+/// What each call of an input finds, if all contenders agree.
+fn agreed_calls(input: &Input<Listed>) -> Result<Vec<Found>, String> {
+    let found = input.content.calls().into_iter().map(agreed_found);
+    found
         .collect::<Result<_, _>>()
         .map_err(|message: String| format!("{}: {message}", input.name))
 }
 
-/// How many pairs of a call meet, if all contenders agree. They are also asked with a buffer that is
-/// one number too short.
-fn agreed_count(lists: Lists) -> Result<usize, String> {
-    let asked = |start: usize, room: usize| {
+/// What a call finds, if all contenders agree. They are also asked with a buffer that is one number too
+/// short.
+fn agreed_found(lists: Lists) -> Result<Found, String> {
+    let asked = |room: usize| {
         let [first, second] = lists.map(<[i32]>::to_vec);
-        agreed_answer(&Question {
+        agreed_outcome(&Question {
             first,
             second,
-            buffer_length: start + room,
-            start,
+            buffer_length: START + room,
+            start: START,
         })
     };
-    let answer = asked(3, 2 * pairs_of(lists))?;
+    let (answer, buffer) = asked(2 * pairs_of(lists))?;
     if answer.number != 0 {
         return Err(format!("refused, {answer:?}"));
     }
-    let count = answer.value as usize;
-    if count > 0 {
-        asked(3, 2 * count - 1)?;
+    let length = 2 * answer.value as usize;
+    if length > 0 {
+        asked(length - 1)?;
     }
-    Ok(count)
+    Ok(buffer[START..START + length].to_vec())
 }
 
-/// The answer, if all contenders give the same and leave the same buffer.
-fn agreed_answer(question: &Question) -> Result<Answer, String> {
+type Outcome = (Answer, Vec<u32>);
+
+/// The answer and the buffer, if all contenders give the same and leave the same. The 64-bit listing is not
+/// asked where it would overflow.
+fn agreed_outcome(question: &Question) -> Result<Outcome, String> {
     let outcome = |list: Contender| {
         let mut buffer = vec![UNWRITTEN; question.buffer_length];
         let answer = list(&question.first, &question.second, &mut buffer, question.start);
         (answer, buffer)
     };
     let wide = outcome(listing::list::<i128>);
-    for (name, list) in [("door", door::list as Contender), ("64-bit", listing::list::<i64>)] {
+    let are_narrow = is_narrow(&question.first) && is_narrow(&question.second);
+    let narrow = are_narrow.then_some(("64-bit", listing::list::<i64> as Contender));
+    for (name, list) in [("door", door::list as Contender)].into_iter().chain(narrow) {
         let other = outcome(list);
         if other != wide {
             return Err(difference(question, name, other, wide));
         }
     }
-    Ok(wide.0)
+    Ok(wide)
 }
-
-type Outcome = (Answer, Vec<u32>);
 
 fn difference(question: &Question, name: &str, other: Outcome, wide: Outcome) -> String {
     let place = (0..question.buffer_length).find(|&k| other.1[k] != wide.1[k]);
@@ -136,9 +146,10 @@ fn pairs_of([first, second]: Lists) -> usize {
 /// Times one input, prints its line and gives the door's ratio. The door is timed with room for just
 /// the pairs that are found and with room for every pair, in which no listing can be refused, and the
 /// slower counts: a caller does not know beforehand how many pairs there are.
-fn timed_ratio(input: &Input, counts: &[usize]) -> f64 {
-    let calls = input.calls();
-    let tight: Vec<usize> = counts.iter().map(|count| 2 * count).collect();
+fn timed_ratio(input: &Input<Listed>, found: &[Found]) -> f64 {
+    let calls = input.content.calls();
+    let are_narrow = calls.as_flattened().iter().all(|list| is_narrow(list));
+    let tight: Vec<usize> = found.iter().map(Vec::len).collect();
     let ample: Vec<usize> = calls.iter().map(|&lists| 2 * pairs_of(lists)).collect();
     let mut buffer = vec![UNWRITTEN; ample.iter().copied().max().unwrap_or_default()];
     let mut time = |rooms: &[usize], list: Contender| time_for(&calls, rooms, &mut buffer, list);
@@ -147,18 +158,17 @@ fn timed_ratio(input: &Input, counts: &[usize]) -> f64 {
             time(&tight, door::list),
             time(&ample, door::list),
             time(&tight, listing::list::<i128>),
-            time(&tight, listing::list::<i64>),
+            narrow_time(are_narrow, || time(&tight, listing::list::<i64>)),
         ]
     });
     let door = door_tight.max(door_ample);
     let ratio = door / wide;
     say(&format!(
-        "{}, {}, {} pairs found: door {door:.3} ns a pair, 128-bit {wide:.3} ns, ratio {ratio:.4}, goal {} (room for the pairs found {door_tight:.3} ns, for every pair {door_ample:.3} ns; 64-bit {narrow:.3} ns, ratio {:.4})",
+        "{}, {}, {} pairs found: door {door:.3} ns a pair, 128-bit {wide:.3} ns, ratio {ratio:.4}, goal {GOAL} (room for the pairs found {door_tight:.3} ns, for every pair {door_ample:.3} ns; {})",
         input.name,
         told_calls(&calls),
-        counts.iter().sum::<usize>(),
-        input.goal,
-        narrow / wide,
+        tight.iter().sum::<usize>() / 2,
+        told_narrow(narrow, wide, 3),
     ));
     ratio
 }

@@ -4,11 +4,13 @@
 //! ("sheets"). `zg_pair_bytes` ("bytes") is timed beside `zg_pair`, on the same pairs. A time is the
 //! processor's that the process takes.
 //!
-//! For the pairs, the segments and the listings the ordinary code has 128-bit numbers. With 64-bit
-//! numbers it is timed too, to show what of that is due to the width of the numbers alone. For the plates
-//! and the sheets it has 64-bit numbers. A plate that recounts all pairs at each call is timed too, to
-//! show what keeping the count gains. With --check nothing is timed: the inputs of the bytes, the listings
-//! and the sheets and a part of the plates' are compared.
+//! The ordinary code has 128-bit numbers, since a determinant on the grid does not fit 64 bits. Inputs whose
+//! size does not belong to their kind are timed twice: within 2^19, and the same scaled to the whole grid.
+//! Within 2^19 the ordinary test and the ordinary listing are timed with 64-bit numbers too, to show what is
+//! due to the width of the numbers alone; beyond it these would overflow, and are not asked. A plate that
+//! recounts all pairs at each call is timed too, to show what keeping the count gains. With --check nothing
+//! is timed: the inputs of the bytes, the listings and the sheets and a part of the plates' are compared.
+//! Scaling an input may change none of its answers, and that is compared as well.
 //!
 //! `bench/run` says how it is called, and which arguments go together.
 //!
@@ -25,6 +27,7 @@ mod plates;
 #[allow(dead_code)] // the second program asks it for more
 #[path = "../tests/second/random.rs"]
 mod random;
+mod scaling;
 mod sheets;
 mod timing;
 mod verdicts;

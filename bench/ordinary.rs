@@ -5,8 +5,9 @@
 //! to `zg_list`, the ordinary plate, in `plate`, to `zg_plate`, and the ordinary reader of job sheets, in
 //! `sheet`, to `zg_sheet`. Whether two parts on a plate clash is decided in `shells`.
 //!
-//! Every difference, product and determinant is a number of the type `W`: i128, or i64, in which
-//! everything on the grid fits as well, and which the plate and its shells take.
+//! Every difference, product and determinant is a number of the type `W`: i128, in which everything on the
+//! grid fits, and which the plate and its shells take; or i64, in which only what comes of coordinates up to
+//! `NARROW` fits. On larger ones that code would overflow, and say nothing: it is not asked there.
 
 mod flat;
 pub mod listing;
@@ -18,8 +19,10 @@ mod thin;
 use std::cmp::Ordering::{Equal, Greater, Less};
 use std::ops::{Add, Mul, Sub};
 
-/// Every coordinate lies from -GRID to GRID, ends included.
-pub const GRID: i32 = 524_288;
+/// Every coordinate lies from -GRID to GRID, ends included: 2^30.
+pub const GRID: i32 = 1_073_741_824;
+/// Where every coordinate lies from -NARROW to NARROW, 2^19, all that is calculated fits 64 bits.
+pub const NARROW: i32 = 524_288;
 pub const TRIANGLE_NUMBERS: usize = 9;
 pub const SEGMENT_NUMBERS: usize = 6;
 
@@ -133,7 +136,12 @@ fn corner(numbers: &[i32], at: usize) -> Point {
 
 /// Whether nine numbers give a triangle on the grid that is not flat.
 pub fn has_area(numbers: &[i32]) -> bool {
-    checked_shape::<i64>(numbers, 0, 0).is_ok_and(|shape| !shape.is_flat)
+    checked_shape::<i128>(numbers, 0, 0).is_ok_and(|shape| !shape.is_flat)
+}
+
+/// Whether the 64-bit code may be asked about these coordinates.
+pub fn is_narrow(numbers: &[i32]) -> bool {
+    numbers.iter().all(|number| (-NARROW..=NARROW).contains(number))
 }
 
 // ---- The determinants ----

@@ -2,12 +2,13 @@
 //! and of the one that recounts all pairs at each call, and times the three.
 
 use crate::door;
-use crate::inputs::plates::{self, Input, Run};
+use crate::inputs::plates::{self, Run};
 use crate::ordinary::plate::kept::Kept;
 use crate::ordinary::plate::recounted::Recounted;
 use crate::ordinary::plate::{run, ANSWER_NUMBERS, CALL_NUMBERS};
 use crate::ordinary::TRIANGLE_NUMBERS;
-use crate::timing::{best_of, last_line, nanoseconds_each, say};
+use crate::scaling::{compare_scaled, Input};
+use crate::timing::{best_of, last_line, nanoseconds_each, say, GOAL};
 use std::hint::black_box;
 
 /// As for the listings.
@@ -26,12 +27,12 @@ type Contender = fn(&[u32], &[i32], &mut [u64]) -> u64;
 /// reached and one is not.
 pub fn compare_and_time(goals: bool) -> Result<String, String> {
     let inputs = plates::timed();
-    let tallies: Vec<Tally> = inputs.iter().map(agreed_tally).collect::<Result<_, _>>()?;
+    let answers = agreed_on_all(&inputs)?;
     compare_faulty()?;
     let reached = inputs
         .iter()
-        .zip(tallies)
-        .filter(|(input, tally)| timed_ratio(input, tally) <= input.goal)
+        .zip(answers)
+        .filter(|(input, answers)| timed_ratio(input, &tally_of(answers)) <= GOAL)
         .count();
     last_line("plates", reached, inputs.len(), goals)
 }
@@ -39,35 +40,26 @@ pub fn compare_and_time(goals: bool) -> Result<String, String> {
 /// Compares the faulty runs and the first calls of those that are timed otherwise. The last line to
 /// print.
 pub fn compare() -> Result<String, String> {
-    for mut input in plates::timed() {
-        input.run.calls.truncate(QUICK_CALLS * CALL_NUMBERS);
-        agreed_tally(&input)?;
+    let mut inputs = plates::timed();
+    for input in &mut inputs {
+        input.content.calls.truncate(QUICK_CALLS * CALL_NUMBERS);
     }
+    agreed_on_all(&inputs)?;
     compare_faulty()?;
     Ok("all plates agree; nothing is timed".into())
 }
 
 // ---- The comparison ----
 
-/// What the answers tell of a run that is timed.
-struct Tally {
-    calls: usize,
-    refused: usize,
-    /// The count after a call, on average.
-    mean_count: f64,
-}
-
-/// The tally of an input, if all contenders agree on every call.
-fn agreed_tally(input: &Input) -> Result<Tally, String> {
-    let calls = input.run.calls.len() / CALL_NUMBERS;
-    let answers =
-        agreed_answers(&input.run, calls * ANSWER_NUMBERS).map_err(|message| format!("{}: {message}", input.name))?;
-    let each = || answers.chunks_exact(ANSWER_NUMBERS);
-    Ok(Tally {
-        calls,
-        refused: each().filter(|answer| answer[0] != 0).count(),
-        mean_count: each().map(|answer| answer[3] as f64).sum::<f64>() / calls as f64,
-    })
+/// The answers to each input, if all contenders agree on every call, on both scales.
+fn agreed_on_all(inputs: &[Input<Run>]) -> Result<Vec<Vec<u64>>, String> {
+    let agreed = inputs.iter().map(|input| {
+        let calls = input.content.calls.len() / CALL_NUMBERS;
+        agreed_answers(&input.content, calls * ANSWER_NUMBERS).map_err(|message| format!("{}: {message}", input.name))
+    });
+    let answers: Vec<Vec<u64>> = agreed.collect::<Result<_, _>>()?;
+    compare_scaled(inputs, &answers)?;
+    Ok(answers)
 }
 
 fn compare_faulty() -> Result<(), String> {
@@ -104,7 +96,7 @@ fn difference(asked: &Run, name: &str, other: Outcome, kept: Outcome) -> String 
     let told_outcome =
         |(made, answers): Outcome| format!("{made} calls made, answer {:?}", part(&answers, call, ANSWER_NUMBERS));
     format!(
-        "the plates differ:\n  call {call} of the run {:?}\n  its numbers {:?}\n  {name} {}\n  64-bit {}",
+        "the plates differ:\n  call {call} of the run {:?}\n  its numbers {:?}\n  {name} {}\n  128-bit {}",
         part(&asked.calls, call, CALL_NUMBERS),
         part(&asked.numbers, call, TRIANGLE_NUMBERS),
         told_outcome(other),
@@ -119,29 +111,46 @@ fn part<Number>(numbers: &[Number], call: usize, each: usize) -> &[Number] {
 
 // ---- The times ----
 
+/// What the answers tell of a run that is timed.
+struct Tally {
+    calls: usize,
+    refused: usize,
+    /// The count after a call, on average.
+    mean_count: f64,
+}
+
+fn tally_of(answers: &[u64]) -> Tally {
+    let each = || answers.chunks_exact(ANSWER_NUMBERS);
+    let calls = each().len();
+    Tally {
+        calls,
+        refused: each().filter(|answer| answer[0] != 0).count(),
+        mean_count: each().map(|answer| answer[3] as f64).sum::<f64>() / calls as f64,
+    }
+}
+
 /// Times one input, prints its line and gives the door's ratio.
-fn timed_ratio(input: &Input, tally: &Tally) -> f64 {
+fn timed_ratio(input: &Input<Run>, tally: &Tally) -> f64 {
     let mut answers = vec![UNWRITTEN; tally.calls * ANSWER_NUMBERS];
-    let mut time = |contender: Contender| time_for(input, tally.calls, &mut answers, contender);
+    let mut time = |contender: Contender| time_for(&input.content, tally.calls, &mut answers, contender);
     let [door, kept] = best_of(ROUNDS, || [time(door::plate), time(run::<Kept>)]);
     let [recounted] = best_of(RECOUNTED_ROUNDS, || [time(run::<Recounted>)]);
     let ratio = door / kept;
     say(&format!(
-        "{}, {} calls, {} refused, count {:.0} on average: door {door:.1} ns a call, 64-bit {kept:.1} ns, ratio {ratio:.3}, goal {} (recounting all pairs {recounted:.1} ns, ratio {:.2}, which is {:.1} times the door)",
+        "{}, {} calls, {} refused, count {:.0} on average: door {door:.1} ns a call, 128-bit {kept:.1} ns, ratio {ratio:.3}, goal {GOAL} (recounting all pairs {recounted:.1} ns, ratio {:.2}, which is {:.1} times the door)",
         input.name,
         tally.calls,
         tally.refused,
         tally.mean_count,
-        input.goal,
         recounted / kept,
         recounted / door,
     ));
     ratio
 }
 
-fn time_for(input: &Input, calls: usize, answers: &mut [u64], contender: Contender) -> f64 {
+fn time_for(run: &Run, calls: usize, answers: &mut [u64], contender: Contender) -> f64 {
     nanoseconds_each(calls, || {
-        let Run { calls, numbers } = black_box(&input.run);
+        let Run { calls, numbers } = black_box(run);
         black_box(contender(calls, numbers, black_box(answers)));
     })
 }

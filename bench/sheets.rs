@@ -2,9 +2,10 @@
 //! two.
 
 use crate::door;
-use crate::inputs::sheets::{self, Input};
+use crate::inputs::sheets;
 use crate::ordinary::sheet::{answer, TEXT_BYTES};
-use crate::timing::{best_of, last_line, nanoseconds_each, say};
+use crate::scaling::{compare_scaled, Input};
+use crate::timing::{best_of, last_line, nanoseconds_each, say, GOAL};
 use std::hint::black_box;
 
 /// A sheet is answered in milliseconds, and other work on the machine may disturb for longer than a few of them.
@@ -19,14 +20,11 @@ const UNWRITTEN: u8 = b'?';
 pub fn compare_and_time(goals: bool) -> Result<String, String> {
     let inputs = sheets::timed();
     compare_faulty()?;
-    let texts: Vec<Vec<u8>> = inputs
-        .iter()
-        .map(|input| agreed_text(&input.sheet))
-        .collect::<Result<_, _>>()?;
+    let texts = agreed_texts(&inputs)?;
     let reached = inputs
         .iter()
         .zip(texts)
-        .filter(|(input, text)| timed_ratio(input, text) <= input.goal)
+        .filter(|(input, text)| timed_ratio(input, text) <= GOAL)
         .count();
     last_line("sheets", reached, inputs.len(), goals)
 }
@@ -34,9 +32,7 @@ pub fn compare_and_time(goals: bool) -> Result<String, String> {
 /// Compares the texts alone. The last line to print.
 pub fn compare() -> Result<String, String> {
     compare_faulty()?;
-    for input in sheets::timed() {
-        agreed_text(&input.sheet)?;
-    }
+    agreed_texts(&sheets::timed())?;
     Ok("all sheets agree; nothing is timed".into())
 }
 
@@ -46,6 +42,14 @@ fn compare_faulty() -> Result<(), String> {
     sheets::faulty()
         .iter()
         .try_for_each(|sheet| agreed_text(sheet).map(|_| ()))
+}
+
+/// The text of each input, if both write the same, on both scales.
+fn agreed_texts(inputs: &[Input<Vec<u8>>]) -> Result<Vec<Vec<u8>>, String> {
+    let agreed = inputs.iter().map(|input| agreed_text(&input.content));
+    let texts: Vec<Vec<u8>> = agreed.collect::<Result<_, _>>()?;
+    compare_scaled(inputs, &texts)?;
+    Ok(texts)
 }
 
 /// The text, if both write the same and the door leaves what comes after it.
@@ -82,7 +86,7 @@ fn difference(sheet: &[u8], length: usize, told: &[u8], text: &[u8]) -> String {
         format!("{sheet:?}")
     };
     format!(
-        "the sheets differ:\n  sheet {told_sheet}\n  line {number}\n  door {length} bytes, {:?}\n  64-bit {} bytes, {:?}",
+        "the sheets differ:\n  sheet {told_sheet}\n  line {number}\n  door {length} bytes, {:?}\n  128-bit {} bytes, {:?}",
         line(told, number),
         text.len(),
         line(text, number),
@@ -92,7 +96,8 @@ fn difference(sheet: &[u8], length: usize, told: &[u8], text: &[u8]) -> String {
 // ---- The times ----
 
 /// Times one input, prints its line and gives the door's ratio.
-fn timed_ratio(input: &Input, text: &[u8]) -> f64 {
+fn timed_ratio(input: &Input<Vec<u8>>, text: &[u8]) -> f64 {
+    let sheet = &input.content;
     let lines = || text.split(|&byte| byte == b'\n').filter(|line| !line.is_empty());
     let fields = lines().count();
     let mut room = door_room();
@@ -100,18 +105,17 @@ fn timed_ratio(input: &Input, text: &[u8]) -> f64 {
     let [door, ordinary] = best_of(ROUNDS, || {
         [
             nanoseconds_each(fields, || {
-                black_box(door::sheet(black_box(&input.sheet), black_box(&mut room)));
+                black_box(door::sheet(black_box(sheet), black_box(&mut room)));
             }),
-            nanoseconds_each(fields, || answer(black_box(&input.sheet), black_box(&mut buffer))),
+            nanoseconds_each(fields, || answer(black_box(sheet), black_box(&mut buffer))),
         ]
     });
     let ratio = door / ordinary;
     say(&format!(
-        "{}, {} bytes, {fields} fields, {} refused: door {door:.1} ns a field, 64-bit {ordinary:.1} ns, ratio {ratio:.3}, goal {}",
+        "{}, {} bytes, {fields} fields, {} refused: door {door:.1} ns a field, 128-bit {ordinary:.1} ns, ratio {ratio:.3}, goal {GOAL}",
         input.name,
-        input.sheet.len(),
+        sheet.len(),
         lines().filter(|line| !line.starts_with(b"0 ")).count(),
-        input.goal,
     ));
     ratio
 }

@@ -3,6 +3,12 @@
 use std::io::Write;
 use std::time::Duration;
 
+/// The highest ratio to the ordinary 128-bit code that an input should have. It is one for all, since the grid
+/// grew beyond what 64 bits hold: what was reached before is in docs/LANDINGS.md.
+pub const GOAL: f64 = 2.0;
+/// What stands for the time of 64-bit code where it would overflow, and so is not asked.
+const NOT_ASKED: f64 = f64::INFINITY;
+
 /// Linux's number of the clock that goes while a processor works for this process: CLOCK_PROCESS_CPUTIME_ID.
 const PROCESS_CLOCK: i32 = 2;
 
@@ -51,6 +57,23 @@ pub fn nanoseconds_each(count: usize, work: impl FnOnce()) -> f64 {
     let start = process_time();
     work();
     (process_time() - start).as_nanos() as f64 / count as f64
+}
+
+/// The time of 64-bit code, which is taken only where no number is beyond NARROW.
+pub fn narrow_time(is_narrow: bool, time: impl FnOnce() -> f64) -> f64 {
+    if is_narrow {
+        time()
+    } else {
+        NOT_ASKED
+    }
+}
+
+/// The time of the 64-bit code and its ratio to the 128-bit code, with so many decimal places, if it was asked.
+pub fn told_narrow(narrow: f64, wide: f64, places: usize) -> String {
+    if narrow == NOT_ASKED {
+        return "64-bit -".into();
+    }
+    format!("64-bit {narrow:.places$} ns, ratio {:.places$}", narrow / wide)
 }
 
 /// A reader that stops listening must not change the exit status, so a failed write is passed over.

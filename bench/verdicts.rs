@@ -2,29 +2,28 @@
 //! ordinary tests, and times them.
 
 use crate::door;
-use crate::inputs::{self, Input, Pair};
-use crate::ordinary::{self, Answer, SEGMENT_NUMBERS, TRIANGLE_NUMBERS};
-use crate::timing::{best_of, nanoseconds_each, say};
+use crate::inputs::{self, Pair, PairsInput};
+use crate::ordinary::{self, is_narrow, Answer, SEGMENT_NUMBERS, TRIANGLE_NUMBERS};
+use crate::scaling::compare_scaled;
+use crate::timing::{best_of, nanoseconds_each, narrow_time, say, told_narrow, GOAL};
 use std::hint::black_box;
 
 pub const ROUNDS: usize = 101;
 /// The pairs that are timed, and the faulty ones, come from these seeds.
 pub const PAIRS_SEEDS: [u64; 3] = [1, 2, 3];
 pub const FAULTY_PAIRS_SEED: u64 = 4;
-/// The highest ratio to the ordinary test that the pair call should have.
-const PAIRS_GOAL: f64 = 0.45;
 
 /// The last line to print. It is an error where two answers differ, or a ratio is higher than is allowed
 /// or, where the goal has to be reached, than the goal.
 pub fn pairs(at_most: f64, goals: bool) -> Result<String, String> {
     let call = Call {
         name: "pair",
-        goal: Some(PAIRS_GOAL),
+        goal: Some(GOAL),
         door: door::pair,
         wide: ordinary::pair::<i128>,
         narrow: ordinary::pair::<i64>,
     };
-    let limit = if goals { at_most.min(PAIRS_GOAL) } else { at_most };
+    let limit = if goals { at_most.min(GOAL) } else { at_most };
     call.compare_and_time::<TRIANGLE_NUMBERS>(PAIRS_SEEDS, FAULTY_PAIRS_SEED, limit)
 }
 
@@ -40,8 +39,9 @@ pub fn segments(at_most: f64) -> Result<String, String> {
     call.compare_and_time::<SEGMENT_NUMBERS>([16, 17, 18], 19, at_most)
 }
 
-/// A call of the door, and the ordinary test that does the same, with 128-bit and with 64-bit numbers.
-/// Each has a type of its own, so that none is called by way of a pointer.
+/// A call of the door, and the ordinary test that does the same, with 128-bit and with 64-bit numbers. The
+/// last is asked only where no number is beyond NARROW, since else it would overflow. Each has a type of its
+/// own, so that none is called by way of a pointer.
 struct Call<Door, Wide, Narrow> {
     name: &'static str,
     goal: Option<f64>,
@@ -63,15 +63,16 @@ impl<Door: Test, Wide: Test, Narrow: Test> Call<Door, Wide, Narrow> {
         limit: f64,
     ) -> Result<String, String> {
         let inputs = inputs::timed::<N>(seeds);
-        let agreed = inputs.iter().map(|input| self.agreed_meeting(input));
-        let meeting: Vec<u64> = agreed.collect::<Result<_, _>>()?;
+        let agreed = inputs.iter().map(|input| self.agreed_values(&input.content));
+        let values: Vec<Vec<u64>> = agreed.collect::<Result<_, _>>()?;
+        compare_scaled(&inputs, &values)?;
         for [first, second] in inputs::faulty::<N>(faulty_seed) {
             self.agreed_answer(&first, &second)?;
         }
         let ratios = inputs
             .iter()
-            .zip(meeting)
-            .map(|(input, meeting)| self.timed_ratio(input, meeting));
+            .zip(values)
+            .map(|(input, values)| self.timed_ratio(input, values.iter().sum()));
         let highest = ratios.fold(0.0, f64::max);
         let name = self.name;
         let line = format!("all {name} answers agree; the highest ratio of the door is {highest:.3}");
@@ -81,19 +82,20 @@ impl<Door: Test, Wide: Test, Narrow: Test> Call<Door, Wide, Narrow> {
         Ok(line)
     }
 
-    /// How many pairs of an input meet, if all contenders agree on every pair.
-    fn agreed_meeting<const N: usize>(&self, input: &Input<N>) -> Result<u64, String> {
-        let answers = input
-            .pairs
-            .iter()
-            .map(|pair| self.agreed_answer(&pair.first, &pair.second));
-        answers.map(|answer| Ok(answer?.value)).sum()
+    /// Whether each pair meets, 1 or 0, if all contenders agree on every pair.
+    fn agreed_values<const N: usize>(&self, pairs: &[Pair<N>]) -> Result<Vec<u64>, String> {
+        let answers = pairs.iter().map(|pair| self.agreed_answer(&pair.first, &pair.second));
+        answers.map(|answer| Ok(answer?.value)).collect()
     }
 
     fn agreed_answer(&self, first: &[i32], second: &[i32]) -> Result<Answer, String> {
         let door = (self.door)(first, second);
         let wide = (self.wide)(first, second);
-        let narrow = (self.narrow)(first, second);
+        let narrow = if is_narrow(first) && is_narrow(second) {
+            (self.narrow)(first, second)
+        } else {
+            wide
+        };
         if door == wide && narrow == wide {
             return Ok(door);
         }
@@ -104,22 +106,26 @@ impl<Door: Test, Wide: Test, Narrow: Test> Call<Door, Wide, Narrow> {
     }
 
     /// Times one input, prints its line and gives the door's ratio.
-    fn timed_ratio<const N: usize>(&self, input: &Input<N>, meeting: u64) -> f64 {
+    fn timed_ratio<const N: usize>(&self, input: &PairsInput<N>, meeting: u64) -> f64 {
+        let pairs = &input.content;
+        let are_narrow = pairs
+            .iter()
+            .all(|pair| is_narrow(&pair.first) && is_narrow(&pair.second));
         let [door, wide, narrow] = best_of(ROUNDS, || {
             [
-                time_for(&input.pairs, &self.door),
-                time_for(&input.pairs, &self.wide),
-                time_for(&input.pairs, &self.narrow),
+                time_for(pairs, &self.door),
+                time_for(pairs, &self.wide),
+                narrow_time(are_narrow, || time_for(pairs, &self.narrow)),
             ]
         });
         let ratio = door / wide;
         let told_goal = self.goal.map(|goal| format!(", goal {goal}")).unwrap_or_default();
         say(&format!(
-            "{}: door {door:.1} ns a {}, 128-bit {wide:.1} ns, ratio {ratio:.3}{told_goal} (64-bit {narrow:.1} ns, ratio {:.2}; meeting {:.0} in 100)",
+            "{}: door {door:.1} ns a {}, 128-bit {wide:.1} ns, ratio {ratio:.3}{told_goal} ({}; meeting {:.0} in 100)",
             input.name,
             self.name,
-            narrow / wide,
-            100.0 * meeting as f64 / input.pairs.len() as f64,
+            told_narrow(narrow, wide, 2),
+            100.0 * meeting as f64 / pairs.len() as f64,
         ));
         ratio
     }

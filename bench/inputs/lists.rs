@@ -1,44 +1,29 @@
 //! The lists: eleven kinds that are timed, each in one call, and two of them in many short calls too, those
-//! of random triangles each from a seed of its own; and faulty ones.
+//! of random triangles each from a seed of its own; and faulty ones. All that are timed but the tiny grid
+//! are timed on both scales.
 
 use super::overlapping::{crossing_triangle, layers};
 use super::surfaces::{cube, sphere, with_slivers};
 use super::{box_list, faulty_shape, spread, List, PAIRS, SMALL_HALF, TINY_END};
 use crate::ordinary::listing::MOST_TRIANGLES;
-use crate::ordinary::{has_area, GRID, TRIANGLE_NUMBERS};
+use crate::ordinary::{has_area, NARROW, TRIANGLE_NUMBERS};
 use crate::random::Random;
+use crate::scaling::{as_it_is, on_both_scales, scaled, Input};
 
-/// Where most pairs have boxes with a point in common, so that the pair test has to decide.
-const DENSE_GOAL: f64 = 0.35;
-/// Where all pairs have.
-const OVERLAPPING_GOAL: f64 = 0.4;
-/// Where few pairs have.
-const SPARSE_GOAL: f64 = 0.012;
-/// Where few pairs have, and what is near in space is not near in the list.
-const SHUFFLED_GOAL: f64 = 0.015;
-/// Where few pairs have, but for those of the largest triangles.
-const SIZES_GOAL: f64 = 0.05;
-/// As DENSE_GOAL and SPARSE_GOAL, where the calls are short, so that what is done once a list weighs more.
-const SHORT_DENSE_GOAL: f64 = 0.6;
-const SHORT_SPARSE_GOAL: f64 = 0.25;
-
-/// Half of a size goes from 2 to the first power to 2 to the second, which is GRID: from some ten steps of
-/// the grid to all of it, five decades.
+/// Half of a size goes from 2 to the first power to 2 to the second, which is NARROW: from some ten steps of
+/// the grid to all within NARROW, five decades.
 const HALF_POWERS: [i32; 2] = [2, 19];
 
 type Lists = [Vec<i32>; 2];
 
 /// Two lists that are served, in one call or in pieces.
-pub struct Input {
-    pub name: &'static str,
+pub struct Listed {
     lists: Lists,
     /// So many triangles of each list make a piece.
     piece: [usize; 2],
-    /// The highest ratio to the ordinary listing that the door should have.
-    pub goal: f64,
 }
 
-impl Input {
+impl Listed {
     /// The two lists of each call: each piece of the first list with each of the second. So the pairs
     /// are the same, however long the pieces are.
     pub fn calls(&self) -> Vec<[&[i32]; 2]> {
@@ -49,77 +34,66 @@ impl Input {
     }
 }
 
-pub fn timed() -> Vec<Input> {
-    let mut inputs = in_one_call();
+pub fn timed() -> Vec<Input<Listed>> {
+    let mut inputs: Vec<Input<Listed>> = scaled_kinds()
+        .into_iter()
+        .flat_map(|(name, lists)| in_pieces(name, &lists, [MOST_TRIANGLES; 2]))
+        .collect();
+    let tiny = Listed {
+        lists: with_area(7, tiny_triangle),
+        piece: [MOST_TRIANGLES; 2],
+    };
+    inputs.extend(as_it_is("a tiny grid, many touching or in one plane", tiny));
     inputs.extend(in_short_calls());
     inputs
 }
 
-fn in_one_call() -> Vec<Input> {
+/// The kinds that are timed in one call, but for the tiny grid.
+fn scaled_kinds() -> [(&'static str, Lists); 10] {
     let spheres = [[0, 0, 0], [170_000, 110_000, 70_000]].map(|middle| sphere(middle, 250_000));
     let cubes = [[0, 0, -180_000], [35_000, 52_000, 180_000]].map(|middle| cube(middle, 20_000));
     let slivers = spheres.each_ref().map(|list| with_slivers(list));
     let [shuffled_spheres, shuffled_cubes] = [shuffled(20, &spheres), shuffled(21, &cubes)];
-    let inputs = [
-        ("random over the whole grid", random_lists(), DENSE_GOAL),
-        ("small triangles spread over the grid", small_lists(), SPARSE_GOAL),
-        (
-            "a tiny grid, many touching or in one plane",
-            with_area(7, tiny_triangle),
-            DENSE_GOAL,
-        ),
-        ("two spheres that overlap", spheres, SPARSE_GOAL),
-        ("a cube resting on another", cubes, SPARSE_GOAL),
+    [
+        ("random", random_lists()),
+        ("small triangles, spread", small_lists()),
+        ("two spheres that overlap", spheres),
+        ("a cube resting on another", cubes),
         (
             "slivers: the spheres, one triangle in ten a segment or a point",
             slivers,
-            SPARSE_GOAL,
         ),
-        ("the spheres in shuffled order", shuffled_spheres, SHUFFLED_GOAL),
-        ("the cubes in shuffled order", shuffled_cubes, SHUFFLED_GOAL),
-        (
-            "all boxes overlapping, crossing",
-            with_area(22, crossing_triangle),
-            OVERLAPPING_GOAL,
-        ),
-        ("all boxes overlapping, in layers", layers(23), OVERLAPPING_GOAL),
-        (
-            "sizes over five decades",
-            with_area(24, triangle_of_any_size),
-            SIZES_GOAL,
-        ),
-    ];
-    let piece = [MOST_TRIANGLES; 2];
-    let input = |(name, lists, goal)| Input {
-        name,
-        lists,
-        piece,
-        goal,
-    };
-    inputs.map(input).into()
-}
-
-fn in_short_calls() -> [Input; 3] {
-    let short_dense = |length| Input {
-        name: "random over the whole grid, in short calls",
-        lists: random_lists(),
-        piece: [length; 2],
-        goal: SHORT_DENSE_GOAL,
-    };
-    [
-        short_dense(16),
-        short_dense(64),
-        Input {
-            name: "small triangles spread over the grid, in short calls",
-            lists: small_lists(),
-            piece: [1, MOST_TRIANGLES],
-            goal: SHORT_SPARSE_GOAL,
-        },
+        ("the spheres in shuffled order", shuffled_spheres),
+        ("the cubes in shuffled order", shuffled_cubes),
+        ("all boxes overlapping, crossing", with_area(22, crossing_triangle)),
+        ("all boxes overlapping, in layers", layers(23)),
+        ("sizes over five decades", with_area(24, triangle_of_any_size)),
     ]
 }
 
+fn in_short_calls() -> Vec<Input<Listed>> {
+    let random = random_lists();
+    let short_dense = |length| in_pieces("random, in short calls", &random, [length; 2]);
+    let short_sparse = in_pieces(
+        "small triangles, spread, in short calls",
+        &small_lists(),
+        [1, MOST_TRIANGLES],
+    );
+    [short_dense(16), short_dense(64), short_sparse]
+        .into_iter()
+        .flatten()
+        .collect()
+}
+
+fn in_pieces(name: &str, lists: &Lists, piece: [usize; 2]) -> Vec<Input<Listed>> {
+    on_both_scales(name, |scale| Listed {
+        lists: lists.each_ref().map(|list| scaled(list, scale)),
+        piece,
+    })
+}
+
 fn random_lists() -> Lists {
-    with_area(5, |random| box_list(random, -GRID, GRID))
+    with_area(5, |random| box_list(random, -NARROW, NARROW))
 }
 
 fn small_lists() -> Lists {
@@ -163,7 +137,7 @@ fn triangle_of_any_size(random: &mut Random) -> List {
     triangle_of_size(random, half)
 }
 
-/// The corners lie at most `half` from a point anywhere on the grid, in each coordinate.
+/// The corners lie at most `half` from a point anywhere within NARROW, in each coordinate.
 fn triangle_of_size(random: &mut Random, half: i32) -> List {
     let mut list = box_list(random, -half, half);
     spread(random, half, &mut list);

@@ -3,7 +3,7 @@
 
 use super::{box_list, List};
 use crate::ordinary::listing::MOST_TRIANGLES;
-use crate::ordinary::GRID;
+use crate::ordinary::NARROW;
 use crate::random::Random;
 
 /// The corners of a layer lie around these, seen along z, each coordinate at most SIDEWAYS off.
@@ -14,10 +14,10 @@ const SIDEWAYS: i32 = 40_000;
 const STEP: i32 = 8;
 const BUMP: i32 = 3;
 
-/// A triangle anywhere on the grid whose box holds the middle of the grid.
+/// A triangle anywhere within NARROW whose box holds the middle of the grid.
 pub fn crossing_triangle(random: &mut Random) -> List {
     loop {
-        let list = box_list(random, -GRID, GRID);
+        let list = box_list(random, -NARROW, NARROW);
         if holds_middle(&list) {
             return list;
         }

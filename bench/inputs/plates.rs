@@ -1,24 +1,26 @@
 //! The plates' inputs: runs of calls, five kinds that are timed, and faulty ones. Three of the five are of
-//! random calls, each from a seed of its own; two are of questions whether two shells clash.
+//! random calls, each from a seed of its own; two are of questions whether two shells clash. All five but the
+//! tiny grid are timed on both scales.
 
 use super::lists::{small_triangle, tiny_triangle};
 use super::surfaces::{octahedron, tetrahedron};
-use super::{box_list, faulty_shape, List, SMALL_HALF};
+use super::{box_list, faulty_shape, shape_about, List, SMALL_HALF};
 use crate::ordinary::plate::kept::Kept;
 use crate::ordinary::plate::{Plate, ANSWER_NUMBERS, CALL_NUMBERS, CLASH, LIFT, PARTS, PLACE, SHIFT, SLOTS, UNDO};
-use crate::ordinary::{GRID, TRIANGLE_NUMBERS};
+use crate::ordinary::{GRID, NARROW, TRIANGLE_NUMBERS};
 use crate::random::Random;
+use crate::scaling::{as_it_is, on_both_scales, scaled, Input, SCALE};
 
 /// This many calls in a run of random ones that is timed.
 const CALLS: usize = 10_000;
 /// This many questions in a run of questions. One takes many times as long as a random call.
 const QUESTIONS: usize = 1_000;
-/// The highest ratio to the ordinary plate that the door should have.
-const GOAL: f64 = 1.0;
 /// Of the calls that the plate would refuse, one in so many stays in a run that is timed.
 const REFUSED_ONCE_IN: u64 = 20;
-/// The middle of the grid goes from -MIDDLE_HALF to this, which leaves room for moves.
-const MIDDLE_HALF: i32 = GRID / 4;
+/// The refusals of a number off the grid, and of a move off it.
+const OFF_GRID: [u64; 2] = [1, 11];
+/// The middle goes from -MIDDLE_HALF to this, which leaves room for moves.
+const MIDDLE_HALF: i32 = NARROW / 4;
 
 /// So many runs with faults, each of fewer random calls and then fewer undos than these.
 const FAULTY_RUNS: usize = 2_000;
@@ -27,6 +29,8 @@ const FAULTY_UNDOS: usize = 50;
 /// One of them in so many starts with two shells, of which one is moved so often.
 const SHELLS_ONCE_IN: u64 = 4;
 const SHELL_MOVES: usize = 6;
+/// One in so many starts with a triangle that goes from one end of the grid to the other, and back.
+const ACROSS_ONCE_IN: u64 = 8;
 
 /// The kinds of calls, each as often as it is drawn. Four places are drawn for one lift, and the fuller
 /// the plate is the more places are refused: on average some 50 slots are filled.
@@ -55,6 +59,13 @@ impl Run {
         });
     }
 
+    fn scaled(&self, scale: i32) -> Run {
+        Run {
+            calls: self.calls.clone(),
+            numbers: scaled(&self.numbers, scale),
+        }
+    }
+
     /// Places the triangles of a list, from this slot on.
     fn push_places(&mut self, first_slot: u32, part: u32, list: &[i32]) {
         let triangles = list.chunks_exact(TRIANGLE_NUMBERS);
@@ -65,92 +76,81 @@ impl Run {
     }
 }
 
-/// A run that is timed: mostly served calls.
-pub struct Input {
-    pub name: &'static str,
-    pub run: Run,
-    /// The highest ratio to the ordinary plate that the door should have.
-    pub goal: f64,
-}
-
 /// One call: its kind and what it is about, and the triangle or the move.
 struct Call {
     about: [u32; CALL_NUMBERS],
     numbers: List,
 }
 
-/// What triangles are placed, and how far they are moved at most along each axis.
+/// What triangles are placed, how far they are moved at most along each axis, and which end of a grid the
+/// calls with faults are about.
 struct Style {
     any_triangle: fn(&mut Random) -> List,
     farthest: [i32; 3],
+    end: i32,
 }
 
-pub fn timed() -> [Input; 5] {
+/// Runs of mostly served calls.
+pub fn timed() -> Vec<Input<Run>> {
+    let middle = of_random(9, any_middle_triangle, [MIDDLE_HALF / 8; 3]);
+    let small = of_random(10, small_triangle, [SMALL_HALF; 3]);
+    // They stay close, and what lies in one plane stays there.
+    let tiny = of_random(11, tiny_triangle, [1, 0, 0]);
+    // Seen along x they overlap, so that the way from a corner leads through the other shell.
+    let beside = of_questions(
+        octahedron([-240_000, 0, 0], 200_000),
+        octahedron([240_000, 35_001, 52_003], 200_000),
+    );
+    let inside = of_questions(
+        octahedron([0, 0, 0], 400_000),
+        octahedron([20_001, 35_003, 52_007], 100_000),
+    );
+    let on_both = |name, run: Run| on_both_scales(name, |scale| run.scaled(scale));
     [
-        of_random(
-            9,
-            "random over the middle of the grid",
-            Style {
-                any_triangle: any_middle_triangle,
-                farthest: [MIDDLE_HALF / 8; 3],
-            },
-        ),
-        of_random(
-            10,
-            "small triangles spread over the grid",
-            Style {
-                any_triangle: small_triangle,
-                farthest: [SMALL_HALF; 3],
-            },
-        ),
-        of_random(
-            11,
-            "a tiny grid, many touching or in one plane",
-            Style {
-                any_triangle: tiny_triangle,
-                // They stay close, and what lies in one plane stays there.
-                farthest: [1, 0, 0],
-            },
-        ),
-        // Seen along x they overlap, so that the way from a corner leads through the other shell.
-        of_questions(
-            "questions of two shells of 32 triangles, beside each other",
-            octahedron([-240_000, 0, 0], 200_000),
-            octahedron([240_000, 35_001, 52_003], 200_000),
-        ),
-        of_questions(
-            "questions of two shells of 32 triangles, one inside the other",
-            octahedron([0, 0, 0], 400_000),
-            octahedron([20_001, 35_003, 52_007], 100_000),
-        ),
+        on_both("random over the middle", middle),
+        on_both("small triangles, spread", small),
+        as_it_is("a tiny grid, many touching or in one plane", tiny),
+        on_both("questions of two shells of 32 triangles, beside each other", beside),
+        on_both("questions of two shells of 32 triangles, one inside the other", inside),
     ]
+    .into_iter()
+    .flatten()
+    .collect()
 }
 
 /// The shells are parts 0 and 1, and they are asked about both ways in turn.
-fn of_questions(name: &'static str, shell: Vec<i32>, other: Vec<i32>) -> Input {
+fn of_questions(shell: Vec<i32>, other: Vec<i32>) -> Run {
     let mut run = Run::default();
     run.push_places(0, 0, &shell);
     run.push_places(SLOTS as u32 / 2, 1, &other);
     for (p, q) in [(0, 1), (1, 0)].into_iter().cycle().take(QUESTIONS) {
         run.push_question(p, q);
     }
-    Input { name, run, goal: GOAL }
+    run
 }
 
 /// The ordinary plate says which of the calls that are drawn would be refused. Such a call leaves it as
-/// it is, and another is drawn in its stead, but now and then it stays.
-fn of_random(seed: u64, name: &'static str, style: Style) -> Input {
+/// it is, and another is drawn in its stead, but now and then it stays. It is asked on the larger scale, so
+/// that NARROW is the end of the grid for what is drawn; what is refused for that end never stays, since on the
+/// smaller scale there is room beyond it. So the answers are the same on both.
+fn of_random(seed: u64, any_triangle: fn(&mut Random) -> List, farthest: [i32; 3]) -> Run {
+    let style = Style {
+        any_triangle,
+        farthest,
+        end: NARROW,
+    };
     let mut random = Random::new(seed, 0);
     let mut plate = Plate::<Kept>::empty();
     let mut run = Run::default();
     while run.calls.len() < CALLS * CALL_NUMBERS {
         let call = any_call(&mut random, &style);
-        let is_served = matches!(plate.call(&call.about, &call.numbers), Some([0, ..]));
-        if is_served || random.once_in(REFUSED_ONCE_IN) {
+        let answer = plate.call(&call.about, &scaled(&call.numbers, SCALE));
+        let [refusal, ..] = answer.expect("only known kinds are drawn");
+        if refusal == 0 || random.once_in(REFUSED_ONCE_IN) && !OFF_GRID.contains(&refusal) {
             run.push(call);
         }
     }
-    Input { name, run, goal: GOAL }
+    run
 }
 
 fn any_call(random: &mut Random, style: &Style) -> Call {
@@ -163,9 +163,9 @@ fn any_call(random: &mut Random, style: &Style) -> Call {
         _ => [0, 0],
     };
     let numbers = match kind {
-        PLACE if random.once_in(20) => faulty_shape(random),
+        PLACE if random.once_in(20) => shape_about(random, style.end),
         PLACE => (style.any_triangle)(random),
-        SHIFT => any_move(random, style.farthest),
+        SHIFT => any_move(random, style.farthest, style.end),
         _ => [0; TRIANGLE_NUMBERS],
     };
     Call {
@@ -195,14 +195,14 @@ pub fn any_middle_triangle(random: &mut Random) -> List {
     box_list(random, -MIDDLE_HALF, MIDDLE_HALF)
 }
 
-/// Now and then a move by nothing, or by far too much.
-pub fn any_move(random: &mut Random, farthest: [i32; 3]) -> List {
+/// Now and then a move by nothing, or by far too much for a grid with this end.
+pub fn any_move(random: &mut Random, farthest: [i32; 3], end: i32) -> List {
     let mut list = [0; TRIANGLE_NUMBERS];
     for (step, farthest) in list.iter_mut().zip(farthest) {
         *step = random.between(-farthest, farthest);
     }
     if random.once_in(40) {
-        list[random.index(3)] = random.pick(&[GRID, -2 * GRID, i32::MAX, i32::MIN]);
+        list[random.index(3)] = random.pick(&[end, -2 * end, i32::MAX, i32::MIN]);
     } else if random.once_in(40) {
         list = [0; TRIANGLE_NUMBERS];
     }
@@ -216,7 +216,8 @@ pub struct Question {
 }
 
 /// Short runs of calls of all kinds, refused or not, in which the numbers, the answers or the calls may
-/// have too little room and a kind may be unknown. Some begin with two shells and questions about them.
+/// have too little room and a kind may be unknown. Some begin with a triangle that crosses the grid, some
+/// with two shells and questions about them.
 /// Many undos at the end reach back beyond what can be taken back.
 pub fn faulty() -> Vec<Question> {
     let mut random = Random::new(12, 0);
@@ -228,8 +229,12 @@ fn faulty_question(random: &mut Random) -> Question {
     let style = Style {
         any_triangle: if random.once_in(2) { faulty_shape } else { tiny_triangle },
         farthest: [2; 3],
+        end: GRID,
     };
     let mut run = Run::default();
+    if random.once_in(ACROSS_ONCE_IN) {
+        push_across(random, &mut run);
+    }
     if random.once_in(SHELLS_ONCE_IN) {
         push_tetrahedra(random, &mut run);
     }
@@ -269,7 +274,30 @@ fn push_tetrahedra(random: &mut Random, run: &mut Run) {
         run.push_question(q, p);
         run.push(Call {
             about: [SHIFT, q, 0],
-            numbers: any_move(random, [4; 3]),
+            numbers: any_move(random, [4; 3], GRID),
+        });
+    }
+}
+
+/// A triangle at one end of the grid goes to the other, by as much as a move can be or by too much, and back.
+/// The way back of one of these moves is 2^31, which is no 32-bit number.
+fn push_across(random: &mut Random, run: &mut Run) {
+    let axis = random.index(3);
+    let mut triangle = [0, 0, 0, 4, 1, 2, 3, 4, 1];
+    let mut step = [0; TRIANGLE_NUMBERS];
+    let end = random.pick(&[GRID, -GRID]);
+    triangle
+        .iter_mut()
+        .skip(axis)
+        .step_by(3)
+        .for_each(|number| *number = end);
+    step[axis] = random.pick(&[i32::MIN, i32::MIN + 1, i32::MAX]);
+    let part = 2; // not one of the shells'
+    run.push_places(SLOTS as u32 - 1, part, &triangle);
+    for kind in [SHIFT, UNDO, SHIFT] {
+        run.push(Call {
+            about: [kind, part, 0],
+            numbers: step,
         });
     }
 }

@@ -1,14 +1,14 @@
 //! The sheets' inputs: job sheets, three kinds that are timed, each nearly as long as a sheet may be,
-//! and faulty ones.
+//! and faulty ones. Those that have coordinates are timed on both scales.
 
 use super::plates::{any_middle_triangle, any_move, any_part, any_slot};
 use super::{bytes_of, faulty_shape, List};
 use crate::ordinary::plate::{LIFT, PARTS, PLACE, SHIFT, SLOTS, UNDO};
 use crate::ordinary::sheet::MOST_BYTES;
+use crate::ordinary::GRID;
 use crate::random::Random;
+use crate::scaling::{as_it_is, on_both_scales, scaled_number, Input};
 
-/// The highest ratio to the ordinary reader that the door should have.
-const GOAL: f64 = 1.5;
 /// A field takes so many bytes: its tag, two bytes of length, and its body.
 const PLACE_BYTES: usize = 41;
 const LIFT_BYTES: usize = 4;
@@ -20,45 +20,36 @@ const FAULTY_FIELDS: usize = 120;
 /// The kinds of their fields, each as often as it is drawn.
 const KINDS: [u32; 6] = [PLACE, PLACE, PLACE, LIFT, SHIFT, UNDO];
 
-/// A sheet that is timed.
-pub struct Input {
-    pub name: &'static str,
-    pub sheet: Vec<u8>,
-    pub goal: f64,
-}
-
-pub fn timed() -> [Input; 3] {
-    let input = |name, sheet| Input {
-        name,
-        sheet,
-        goal: GOAL,
-    };
+pub fn timed() -> Vec<Input<Vec<u8>>> {
     [
-        input("lifts and places in turn on a full plate", full_plate()),
-        input("places, all but the first 64 into filled slots", refused_places()),
-        input("undos of the empty plate", refused_undos()),
+        on_both_scales("lifts and places in turn on a full plate", full_plate),
+        on_both_scales("places, all but the first 64 into filled slots", refused_places),
+        as_it_is("undos of the empty plate", refused_undos()),
     ]
+    .into_iter()
+    .flatten()
+    .collect()
 }
 
-fn full_plate() -> Vec<u8> {
+fn full_plate(scale: i32) -> Vec<u8> {
     let mut random = Random::new(13, 0);
     let mut sheet = Vec::new();
     for slot in 0..SLOTS as u8 {
-        put_middle_place(&mut random, &mut sheet, slot);
+        put_middle_place(&mut random, &mut sheet, slot, scale);
     }
     while sheet.len() + LIFT_BYTES + PLACE_BYTES <= MOST_BYTES {
         let slot = random.index(SLOTS) as u8;
         put_field(&mut sheet, LIFT, &[slot]);
-        put_middle_place(&mut random, &mut sheet, slot);
+        put_middle_place(&mut random, &mut sheet, slot, scale);
     }
     sheet
 }
 
-fn refused_places() -> Vec<u8> {
+fn refused_places(scale: i32) -> Vec<u8> {
     let mut random = Random::new(14, 0);
     let mut sheet = Vec::new();
     for place in 0..MOST_BYTES / PLACE_BYTES {
-        put_middle_place(&mut random, &mut sheet, (place % SLOTS) as u8);
+        put_middle_place(&mut random, &mut sheet, (place % SLOTS) as u8, scale);
     }
     sheet
 }
@@ -71,8 +62,8 @@ fn refused_undos() -> Vec<u8> {
     sheet
 }
 
-fn put_middle_place(random: &mut Random, sheet: &mut Vec<u8>, slot: u8) {
-    let triangle = any_middle_triangle(random);
+fn put_middle_place(random: &mut Random, sheet: &mut Vec<u8>, slot: u8, scale: i32) {
+    let triangle = any_middle_triangle(random).map(|number| scaled_number(number, scale));
     put_place(sheet, slot, random.index(PARTS as usize) as u8, &triangle);
 }
 
@@ -125,7 +116,7 @@ fn put_any_field(random: &mut Random, sheet: &mut Vec<u8>) {
     match random.pick(&KINDS) {
         PLACE => put_place(sheet, slot, part, &faulty_shape(random)),
         LIFT => put_field(sheet, LIFT, &[slot]),
-        SHIFT => put_field(sheet, SHIFT, &body_of(&[part], &any_move(random, [2; 3])[..3])),
+        SHIFT => put_field(sheet, SHIFT, &body_of(&[part], &any_move(random, [2; 3], GRID)[..3])),
         _ => put_field(sheet, UNDO, &[]),
     }
 }

@@ -27,6 +27,10 @@ pub const SHIFT: u32 = 3;
 pub const UNDO: u32 = 4;
 pub const CLASH: u32 = 5;
 
+/// A move along x, y and z. The way back of a move that is accepted may be 2^31, from one end of the grid to the
+/// other, so 32 bits don't hold it.
+type Move = [i64; 3];
+
 /// What is in a filled slot.
 #[derive(Clone, Copy)]
 pub struct Held {
@@ -37,20 +41,21 @@ pub struct Held {
 impl Held {
     /// Whether the two are of different parts and have a point in common.
     fn clashes(&self, other: &Held) -> bool {
-        self.part != other.part && meet::<i64>(self.triangle, other.triangle)
+        self.part != other.part && meet::<i128>(self.triangle, other.triangle)
     }
 
-    fn shift(&mut self, by: Point) {
+    /// It stays on the grid, so the new coordinates fit 32 bits.
+    fn shift(&mut self, by: Move) {
         for corner in &mut self.triangle {
             for (coordinate, step) in corner.iter_mut().zip(by) {
-                *coordinate += step;
+                *coordinate = (i64::from(*coordinate) + step) as i32;
             }
         }
     }
 
-    fn stays_on_grid(&self, by: Point) -> bool {
-        let stays = |(coordinate, step): (i32, i32)| {
-            let sum = i64::from(coordinate) + i64::from(step);
+    fn stays_on_grid(&self, by: Move) -> bool {
+        let stays = |(coordinate, step): (i32, i64)| {
+            let sum = i64::from(coordinate) + step;
             (-i64::from(GRID)..=i64::from(GRID)).contains(&sum)
         };
         self.triangle
@@ -65,7 +70,7 @@ pub trait Slots {
     fn held(&self) -> &[Option<Held>; SLOTS];
     fn put(&mut self, slot: usize, held: Held);
     fn take(&mut self, slot: usize) -> Option<Held>;
-    fn shift(&mut self, part: u32, by: Point);
+    fn shift(&mut self, part: u32, by: Move);
     fn count(&self) -> u64;
 }
 
@@ -73,7 +78,7 @@ pub trait Slots {
 enum Change {
     Placed { slot: usize },
     Lifted { slot: usize, held: Held },
-    Shifted { part: u32, by: Point },
+    Shifted { part: u32, by: Move },
 }
 
 pub struct Plate<S> {
@@ -153,6 +158,7 @@ impl<S: Slots> Plate<S> {
     pub fn shift(&mut self, part: u32, by: Point) -> Result<u64, Answer> {
         check_part(part, 0)?;
         self.check_held(part, 0)?;
+        let by = by.map(i64::from);
         let mut slots = self.slots.held().iter();
         let leaves = |held: &Held| held.part == part && !held.stays_on_grid(by);
         if let Some(slot) = slots.position(|held| held.as_ref().is_some_and(leaves)) {
@@ -220,7 +226,7 @@ impl<S: Slots> Plate<S> {
 
 /// A plate takes no flat triangle.
 fn checked_triangle(numbers: &[i32]) -> Result<Triangle, Answer> {
-    let shape = checked_shape::<i64>(numbers, 0, 0)?;
+    let shape = checked_shape::<i128>(numbers, 0, 0)?;
     if shape.is_flat {
         Err(refusal(2, 0, 0))
     } else {

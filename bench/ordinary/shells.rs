@@ -16,7 +16,7 @@ type Edge = [Point; 2];
 pub fn skins_meet(first: &[Triangle], second: &[Triangle]) -> bool {
     first
         .iter()
-        .any(|&one| second.iter().any(|&other| meet::<i64>(one, other)))
+        .any(|&one| second.iter().any(|&other| meet::<i128>(one, other)))
 }
 
 /// Whether each edge of the triangles occurs once, and its reverse once.
@@ -50,20 +50,20 @@ fn is_ahead([a, b, c]: Triangle, point: Point) -> bool {
 /// On which side of the line from u to v the moved point is, in the shadow. Where the point itself is on the
 /// line the move in y decides, and where that goes along the line the one in z. Zero if u and v have the
 /// same shadow.
-fn edge_sign(u: Point, v: Point, point: Point) -> i64 {
+fn edge_sign(u: Point, v: Point, point: Point) -> i128 {
     let [from, to, at] = flattened([u, v, point], [1, 2]);
-    let along = |k: usize| i64::from(to[k]) - i64::from(from[k]);
+    let along = |k: usize| i128::from(to[k]) - i128::from(from[k]);
     first_sign([flat::turn(from, to, at), -along(1), along(0)])
 }
 
 /// On which side of the triangle's plane the moved point is, in the same way.
-fn plane_sign(triangle: Triangle, point: Point) -> i64 {
+fn plane_sign(triangle: Triangle, point: Point) -> i128 {
     let [a, b, c] = triangle;
-    let [_, y, z] = normal::<i64>(triangle);
+    let [_, y, z] = normal::<i128>(triangle);
     first_sign([side(a, b, c, point), -y, -z])
 }
 
 /// The sign of the first number that isn't zero.
-fn first_sign(numbers: [i64; 3]) -> i64 {
-    numbers.into_iter().find(|&number| number != 0).map_or(0, i64::signum)
+fn first_sign(numbers: [i128; 3]) -> i128 {
+    numbers.into_iter().find(|&number| number != 0).map_or(0, i128::signum)
 }
