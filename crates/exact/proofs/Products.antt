@@ -12,7 +12,7 @@ use Rattle.shape.specs.Points.{Point, coord}
 use Rattle.shape.specs.Signs.{side, row}
 use Rattle.shape.specs.Normals.{dot, normalOf}
 use Rattle.shape.proofs.Planes.{side-by-normal}
-use Rattle.wide.specs.Value.{Small}
+use Rattle.wide.specs.Sums.{Small}
 use Rattle.exact.specs.Grid.{limit}
 use Rattle.exact.specs.Vectors.{Sized, differenceSize, minorSize}
 use Rattle.exact.proofs.Readings.{kept, coordinate, sized-row, sized-normal}

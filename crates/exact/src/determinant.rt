@@ -56,7 +56,8 @@ pub fn space_point(numbers: &[i32], at: usize) -> SpacePoint
     }
 }
 
-// [a,b,c], definition 2.1.
+// [a,b,c], definition 2.1. Differences are at most 2^31 in size, their products 2^62. So is what one product takes from the other, though the two
+// bounds add up to 2^63, one more than 64 bits hold: `turn-size` in proofs/TurnSize.antt of crate `shape`.
 pub fn turn_at(a: PlanePoint, b: PlanePoint, c: PlanePoint) -> i64
     requires { ⌜ Sized limit (planar a) × Sized limit (planar b) × Sized limit (planar c) ⌝ }
     ensures { λ r. ⌜ r ≡ turn (planar a) (planar b) (planar c) ⌝ }

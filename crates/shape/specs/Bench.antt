@@ -74,7 +74,7 @@ row-P9 = verdict-row 3 2 3 (pos 0 ∷ pos 0 ∷ pos 0 ∷ pos 1 ∷ pos 0 ∷ po
 abbrev pub row-P10 : Row
 row-P10 = determinant-row 2 (pos 0 ∷ pos 0 ∷ pos 4 ∷ pos 0 ∷ pos 0 ∷ pos 4 ∷ []) (pos 16) (pos 1)
 
--- P11's L, the end of the grid in document 01.
+-- P11's L. The row keeps it, though the grid has grown since (Q-6).
 abbrev pub L : ℤ
 L = pos 524288
 

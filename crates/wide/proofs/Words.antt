@@ -15,7 +15,8 @@ use Rattle.algebra.proofs.Machine.{Reads, held}
 use Rattle.algebra.proofs.Expression.{var, lit, _⊞_, _⊟_, _⊠_}
 use Rattle.algebra.proofs.Solver.{ring}
 use Rattle.algebra.proofs.Certificate.{_≐_, eqn, num, prove≡}
-use Rattle.wide.specs.Value.{value, Small, Low}
+use Rattle.wide.specs.Value.{value, Low}
+use Rattle.wide.specs.Sums.{Small}
 use Rattle.wide.specs.declared.Wide.{Wide}
 
 -- ---- the value, in any base p: a carry of k goes up, a borrow of k comes down

@@ -7,7 +7,8 @@ ghost use mathlib.Core.Path.{_≡_};
 ghost use Prim.Native.Nat.{_≤_, _^_};
 ghost use lib.IntN.{natAbs, _+ℤ_, _-ℤ_, _*ℤ_};
 ghost use Rattle.shape.specs.Signs.{sign};
-ghost use Rattle.wide.specs.Value.{value, Small};
+ghost use Rattle.wide.specs.Value.{value};
+ghost use Rattle.wide.specs.Sums.{Small};
 
 // hi times 2^64, and lo.
 pub struct Wide {
