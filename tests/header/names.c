@@ -11,7 +11,7 @@
 
 #define IS(name, number) static_assert((name) == (number), #name)
 
-IS(ZG_LIMIT, 524288);
+IS(ZG_LIMIT, 1073741824);
 IS(ZG_TURN_LENGTH, 3 * 2);
 IS(ZG_SIDE_LENGTH, 4 * 3);
 IS(ZG_FLAT_TRIANGLE_LENGTH, 3 * 2);

@@ -18,7 +18,7 @@ use faults::{first_refusal, flat_triangle_faults, point_faults, segment_faults, 
 use listing::ListingFindings;
 use std::fmt;
 
-pub const GRID: i32 = 524_288;
+pub const GRID: i32 = 1_073_741_824;
 pub const TURN_NUMBERS: usize = 6;
 pub const SIDE_NUMBERS: usize = 12;
 pub const FLAT_TRIANGLE_NUMBERS: usize = 6;

@@ -29,10 +29,13 @@ const FLAT_A: [i32; 6] = [0, 0, 4, 0, 0, 4];
 const THROUGH_A: [i32; 9] = [1, 1, -1, 1, 1, 1, 5, 5, 1];
 const ABOVE_A: [i32; 9] = [1, 1, 1, 2, 1, 1, 1, 2, 1];
 const AT_CORNER_OF_A: [i32; 9] = [4, 0, 0, 5, 0, 1, 5, 1, 1];
+/// What row P11 calls L.
 const L: i32 = 524_288;
+/// The end of the grid.
+const END: i32 = 1_073_741_824;
 /// Flat triangles: the first of row 12, and one from corner to corner of the grid.
 const LINE: [i32; 9] = [0, 0, 0, 1, 1, 1, 2, 2, 2];
-const ACROSS: [i32; 9] = [-L, -L, -L, L, L, L, 0, 0, 0];
+const ACROSS: [i32; 9] = [-END, -END, -END, END, END, END, 0, 0, 0];
 
 pub fn rows() -> Vec<Row> {
     let mut rows = flat_rows();
@@ -128,13 +131,23 @@ fn rows_of_wires_and_pins() -> Vec<Row> {
         pair("wires side by side", LINE, [0, 0, 1, 1, 1, 2, 2, 2, 3], APART),
         pair("a pin on a wire", LINE, pin([1, 1, 1]), MEETING),
         pair("a pin beside a wire", LINE, pin([1, 1, 2]), APART),
-        pair("a pin and the same pin", pin([-L, L, 0]), pin([-L, L, 0]), MEETING),
-        pair("a pin and another", pin([-L, L, 0]), pin([-L, L, 1]), APART),
-        pair("wires across the grid", ACROSS, [-L, L, -L, L, -L, L, 0, 0, 0], MEETING),
+        pair(
+            "a pin and the same pin",
+            pin([-END, END, 0]),
+            pin([-END, END, 0]),
+            MEETING,
+        ),
+        pair("a pin and another", pin([-END, END, 0]), pin([-END, END, 1]), APART),
+        pair(
+            "wires across the grid",
+            ACROSS,
+            [-END, END, -END, END, -END, END, 0, 0, 0],
+            MEETING,
+        ),
         pair(
             "wires across the grid that just miss",
             ACROSS,
-            [-L, L, 1 - L, L, -L, L, L, -L, L],
+            [-END, END, 1 - END, END, -END, END, END, -END, END],
             APART,
         ),
     ]
@@ -144,29 +157,29 @@ fn pin([x, y, z]: [i32; 3]) -> [i32; 9] {
     [x, y, z, x, y, z, x, y, z]
 }
 
-/// Row 13: 524,288 is served and 524,289 refused, in each call and each list, at both ends.
+/// Row 13: 1,073,741,824 is served and 1,073,741,825 refused, in each call and each list, at both ends.
 fn rows_at_the_end_of_the_grid() -> Vec<Row> {
     vec![
-        turn("13", [0, 0, 524_288, 0, 0, 4], PLUS_ONE),
-        turn("13", [0, 0, 524_289, 0, 0, 4], Answer::refused(1, 0, 2)),
-        turn("13", [0, 0, 4, 0, 0, -524_288], MINUS_ONE),
-        turn("13", [0, 0, 4, 0, 0, -524_289], Answer::refused(1, 0, 5)),
-        side("13", [0, 0, 0, 524_288, 0, 0, 0, 1, 0, 0, 0, 1], MINUS_ONE),
+        turn("13", [0, 0, 1_073_741_824, 0, 0, 4], PLUS_ONE),
+        turn("13", [0, 0, 1_073_741_825, 0, 0, 4], Answer::refused(1, 0, 2)),
+        turn("13", [0, 0, 4, 0, 0, -1_073_741_824], MINUS_ONE),
+        turn("13", [0, 0, 4, 0, 0, -1_073_741_825], Answer::refused(1, 0, 5)),
+        side("13", [0, 0, 0, 1_073_741_824, 0, 0, 0, 1, 0, 0, 0, 1], MINUS_ONE),
         side(
             "13",
-            [0, 0, 0, 524_289, 0, 0, 0, 1, 0, 0, 0, 1],
+            [0, 0, 0, 1_073_741_825, 0, 0, 0, 1, 0, 0, 0, 1],
             Answer::refused(1, 0, 3),
         ),
-        side("13", [0, 0, 0, 1, 0, 0, 0, 1, 0, 0, 0, -524_288], PLUS_ONE),
+        side("13", [0, 0, 0, 1, 0, 0, 0, 1, 0, 0, 0, -1_073_741_824], PLUS_ONE),
         side(
             "13",
-            [0, 0, 0, 1, 0, 0, 0, 1, 0, 0, 0, -524_289],
+            [0, 0, 0, 1, 0, 0, 0, 1, 0, 0, 0, -1_073_741_825],
             Answer::refused(1, 0, 11),
         ),
-        flat("13", [0, 0, 524_288, 0, 0, 4], FLAT_A, MEETING),
-        flat("13", [0, 0, 524_289, 0, 0, 4], FLAT_A, Answer::refused(1, 0, 2)),
-        flat("13", FLAT_A, [0, 0, 4, 0, 0, -524_288], MEETING),
-        flat("13", FLAT_A, [0, 0, 4, 0, 0, -524_289], Answer::refused(1, 1, 5)),
+        flat("13", [0, 0, 1_073_741_824, 0, 0, 4], FLAT_A, MEETING),
+        flat("13", [0, 0, 1_073_741_825, 0, 0, 4], FLAT_A, Answer::refused(1, 0, 2)),
+        flat("13", FLAT_A, [0, 0, 4, 0, 0, -1_073_741_824], MEETING),
+        flat("13", FLAT_A, [0, 0, 4, 0, 0, -1_073_741_825], Answer::refused(1, 1, 5)),
     ]
 }
 
@@ -174,16 +187,21 @@ fn space_rows_at_the_end_of_the_grid() -> Vec<Row> {
     let edge = [0, 0, 0, 1, 0, 0];
     let high = |z: i32| [0, 0, 0, 4, 0, 0, 0, 4, z];
     vec![
-        segment("13", [1, 1, 0, 1, 1, 524_288], A, MEETING),
-        segment("13", [1, 1, 0, 1, 1, 524_289], A, Answer::refused(1, 0, 5)),
-        segment("13", [-524_288, 5, 5, -524_287, 5, 5], A, APART),
-        segment("13", [-524_289, 5, 5, -524_287, 5, 5], A, Answer::refused(1, 0, 0)),
-        segment("13", edge, high(-524_288), MEETING),
-        segment("13", edge, high(-524_289), Answer::refused(1, 1, 8)),
-        pair("13", high(524_288), A, MEETING),
-        pair("13", high(524_289), A, Answer::refused(1, 0, 8)),
-        pair("13", A, high(-524_288), MEETING),
-        pair("13", A, high(-524_289), Answer::refused(1, 1, 8)),
+        segment("13", [1, 1, 0, 1, 1, 1_073_741_824], A, MEETING),
+        segment("13", [1, 1, 0, 1, 1, 1_073_741_825], A, Answer::refused(1, 0, 5)),
+        segment("13", [-1_073_741_824, 5, 5, -1_073_741_823, 5, 5], A, APART),
+        segment(
+            "13",
+            [-1_073_741_825, 5, 5, -1_073_741_823, 5, 5],
+            A,
+            Answer::refused(1, 0, 0),
+        ),
+        segment("13", edge, high(-1_073_741_824), MEETING),
+        segment("13", edge, high(-1_073_741_825), Answer::refused(1, 1, 8)),
+        pair("13", high(1_073_741_824), A, MEETING),
+        pair("13", high(1_073_741_825), A, Answer::refused(1, 0, 8)),
+        pair("13", A, high(-1_073_741_824), MEETING),
+        pair("13", A, high(-1_073_741_825), Answer::refused(1, 1, 8)),
     ]
 }
 

@@ -2,7 +2,7 @@
 //! a common point, and whether a point is inside a shell, each by two different means. Shapes are closed: a touch is
 //! meeting.
 //!
-//! Coordinates of the grid are at most 2^19 in size, and their differences at most 2^20. What looks for flat shapes
+//! Coordinates of the grid are at most 2^30 in size, and their differences at most 2^31. What looks for flat shapes
 //! also gets coordinates from off the grid, at most 2^31 in size. The comments bound the largest numbers that arise.
 
 pub mod ahead;

@@ -59,8 +59,9 @@ fn extreme_lists(random: &mut Random, numbers: usize) -> Lists {
     (extreme_list(random, numbers), extreme_list(random, numbers))
 }
 
+/// From tiny to the whole grid. With 1,500,000 a volume may or may not have room in 64 bits.
 fn any_half(random: &mut Random) -> i32 {
-    random.pick(&[3, 6, 20, 1_000, GRID])
+    random.pick(&[3, 6, 20, 1_000, 1_500_000, GRID])
 }
 
 /// Moves one number by one, staying on the grid: what lay exactly on a line or a plane now just misses it.

@@ -31,37 +31,42 @@ const THROUGH_A: [Spelt; 9] = [ONE, ONE, MINUS_ONE, ONE, ONE, ONE, FIVE, FIVE, O
 const ABOVE_A: [Spelt; 9] = level_a(ONE);
 
 /// On the grid, its ends included. Most differ from another in one byte, or have the same bytes in another order.
-const HEIGHTS: [Spelt; 14] = [
+const HEIGHTS: [Spelt; 18] = [
     ZERO,
     ONE,
     [0, 1, 0, 0],
     [0, 0, 1, 0],
-    [8, 0, 0, 0],
-    [0, 8, 0, 0],
-    [0, 0, 8, 0],
-    [255, 255, 7, 0],
+    [0, 0, 0, 1],
+    [64, 0, 0, 0],
+    [0, 64, 0, 0],
+    [0, 0, 64, 0],
+    [0, 0, 0, 64],
+    [255, 255, 255, 63],
     MINUS_ONE,
     [255, 0, 0, 0],
     [0, 255, 255, 255],
     [0, 0, 255, 255],
-    [0, 0, 248, 255],
-    [1, 0, 248, 255],
+    [0, 0, 0, 255],
+    [192, 0, 0, 0],
+    [0, 0, 0, 192],
+    [1, 0, 0, 192],
 ];
 
-/// Just beyond the ends of the grid; the others are a number of the grid but for their highest byte or two.
+/// Just beyond the ends of the grid, or the ends with one byte more; the others are a number of the grid but for their
+/// highest byte.
 const OFF_GRID: [Spelt; 12] = [
-    [1, 0, 8, 0],
-    [255, 255, 247, 255],
-    [0, 0, 0, 1],
-    [0, 0, 0, 8],
+    [1, 0, 0, 64],
+    [0, 1, 0, 64],
+    [0, 0, 1, 64],
+    [255, 255, 255, 191],
+    [0, 0, 0, 191],
+    [0, 0, 0, 65],
     [0, 0, 0, 127],
     [0, 0, 0, 128],
-    [0, 0, 0, 255],
-    [255, 255, 255, 0],
+    [255, 255, 255, 64],
     [255, 255, 255, 127],
-    [255, 255, 255, 254],
-    [0, 0, 248, 0],
-    [0, 0, 8, 255],
+    [255, 255, 255, 128],
+    [4, 0, 0, 128],
 ];
 
 pub fn stored() -> Vec<Stored> {

@@ -64,17 +64,17 @@ fn rows_at_the_end_of_the_grid() -> Vec<Row> {
     let refused = |side| Answer::refused(1, side, 17).into();
     let row = |first: &[[i32; 9]], second: &[[i32; 9]], outcome| list_of("13", first, second, outcome);
     vec![
-        row(&after_a(high(524_288)), &[A], listed(vec![[0, 0], [1, 0]])),
-        row(&after_a(high(524_289)), &[A], refused(0)),
-        row(&[A], &after_a(high(-524_288)), listed(vec![[0, 0], [0, 1]])),
-        row(&[A], &after_a(high(-524_289)), refused(1)),
-        row(&after_a(high(524_289)), &[high(524_289)], refused(0)),
+        row(&after_a(high(1_073_741_824)), &[A], listed(vec![[0, 0], [1, 0]])),
+        row(&after_a(high(1_073_741_825)), &[A], refused(0)),
+        row(&[A], &after_a(high(-1_073_741_824)), listed(vec![[0, 0], [0, 1]])),
+        row(&[A], &after_a(high(-1_073_741_825)), refused(1)),
+        row(&after_a(high(1_073_741_825)), &[high(1_073_741_825)], refused(0)),
     ]
 }
 
 /// Which of two faults is named. A flat triangle is none.
 fn rows_of_faults() -> Vec<Row> {
-    let (beyond, off_grid_pin) = (high(524_289), pin([524_289; 3]));
+    let (beyond, off_grid_pin) = (high(1_073_741_825), pin([1_073_741_825; 3]));
     let refused = |number, side, place| Answer::refused(number, side, place).into();
     let short = JudgedLists::new(LINE.to_vec(), A[..8].to_vec());
     vec![
@@ -114,7 +114,7 @@ fn rows_of_the_longest_lists() -> Vec<Row> {
     let ending = |last: [i32; 9]| [A.repeat(MOST_TRIANGLES - 1), last.to_vec()].concat();
     let flat_last = JudgedLists::new(ending([0; 9]), A.to_vec());
     let first_alone = (0..most).map(|i| [i, 0]).collect();
-    let off_grid_last = JudgedLists::new(A.to_vec(), ending([0, 0, 0, 4, 0, 0, 0, 4, 524_289]));
+    let off_grid_last = JudgedLists::new(A.to_vec(), ending([0, 0, 0, 4, 0, 0, 0, 4, 1_073_741_825]));
     let refused = |number, side, place| Answer::refused(number, side, place).into();
     vec![
         list("the longest lists", longest(), (2_097_153, 1), listed(all_pairs)),

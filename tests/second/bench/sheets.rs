@@ -1,7 +1,7 @@
 //! Job sheets with their whole answers as fixed text: the example of request Q-2 in document 02, and what follows from
 //! its words at once.
 
-use super::{A, L, LINE, THROUGH_A};
+use super::{A, END, LINE, THROUGH_A};
 use crate::answers::plate::{Corners, Move, PARTS, SLOTS};
 use crate::sheet::Sheet;
 
@@ -81,7 +81,7 @@ fn all_refusals() -> Stored {
     let mut script = Script::two_places();
     script = script.place(64, 16, A).line("6 1").place(255, 0, A).line("6 1");
     script = script.place(1, 16, LINE).line("7 1").place(1, 255, A).line("7 1");
-    script = script.place(1, 1, [L + 1; 9]).line("1 1");
+    script = script.place(1, 1, [END + 1; 9]).line("1 1");
     script = script.place(1, 1, [0, 0, 0, 4, 0, 0, 0, i32::MIN, 0]).line("1 1");
     script = script.place(1, 1, LINE).line("2 1").place(1, 1, A).line("8 1");
     script = script.lift(64).line("6 1").lift(255).line("6 1").lift(2).line("9 1");

@@ -3,7 +3,7 @@
 
 mod shells;
 
-use super::{A, ABOVE_A, L, THROUGH_A};
+use super::{A, ABOVE_A, END, THROUGH_A};
 use crate::answers::plate::{Corners, Move, PlateAnswer, PlateCall, PARTS, SLOTS};
 use crate::answers::Answer;
 use crate::story::Story;
@@ -153,7 +153,7 @@ fn full_plate() -> Stored {
 /// Of several faults of a place the first counts: 6, 7, 1, 2, 8.
 fn order_of_refusals() -> Stored {
     let (line, last) = ([0, 0, 0, 1, 1, 1, 2, 2, 2], u32::MAX);
-    let (high, high_line) = ([0, 0, 0, 4, 0, L + 1, 0, 4, -L - 1], [L + 1; 9]);
+    let (high, high_line) = ([0, 0, 0, 4, 0, END + 1, 0, 4, -END - 1], [END + 1; 9]);
     let mut script = Script::default();
     script.served(place(5, 5, A), 0, 1);
     let mut refused = |call, number, place| script.call(call, Answer::refused(number, 0, place), 0, 1);
@@ -209,12 +209,12 @@ fn ends_of_the_grid() -> Stored {
     script.served(place(7, 3, A), 0, 2);
     script.served(place(9, 3, A), 0, 3);
     script.served(place(2, 4, ABOVE_A), 1, 4);
-    script.call(shift(3, [0, 0, L]), Answer::refused(11, 0, 40), 1, 4);
-    script.served(shift(3, [0, 0, L - 1]), 0, 5);
-    script.call(shift(3, [L - 3, 0, 0]), Answer::refused(11, 0, 7), 0, 5);
-    script.served(shift(3, [L - 4, 0, 0]), 0, 6);
-    script.call(shift(3, [0, 0, -2 * L]), Answer::refused(11, 0, 7), 0, 6);
-    script.served(shift(3, [0, 0, 1 - 2 * L]), 0, 7);
+    script.call(shift(3, [0, 0, END]), Answer::refused(11, 0, 40), 1, 4);
+    script.served(shift(3, [0, 0, END - 1]), 0, 5);
+    script.call(shift(3, [END - 3, 0, 0]), Answer::refused(11, 0, 7), 0, 5);
+    script.served(shift(3, [END - 4, 0, 0]), 0, 6);
+    script.call(shift(3, [0, 0, -2 * END]), Answer::refused(11, 0, 7), 0, 6);
+    script.served(shift(3, [0, 0, -2 * END + 1]), 0, 7);
     script.call(shift(3, [0, 0, -1]), Answer::refused(11, 0, 7), 0, 7);
     (0..2).for_each(|k| script.served(PlateCall::Undo, 0, 6 - k));
     script.served(PlateCall::Undo, 1, 4);

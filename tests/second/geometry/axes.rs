@@ -19,7 +19,7 @@ pub enum Overlap {
 }
 
 /// The differences of two triangles of the plane have facets that each go along an edge of one of them. So an axis
-/// across each edge is enough. No shadow goes beyond 2^40.
+/// across each edge is enough. Steps are at most 2^31 in size, so no shadow goes beyond 2^62.
 pub fn flat_overlap(first: &FlatTriangle, second: &FlatTriangle) -> Overlap {
     let across = |[x, y]: Flat| [-y, x];
     let all_steps = steps(first).into_iter().chain(steps(second));
@@ -44,7 +44,8 @@ pub fn overlap<const N: usize>(first: &[Space; N], second: &Triangle) -> Overlap
 /// these axes are tried in either case, as no axis can do harm. An axis of zero, which parallel edges give and the
 /// normal of a segment is, tells nothing: all shadows on it are 0.
 ///
-/// Steps are at most 2^20 in size, their products 2^41 and a normal's with a step 2^62, so a shadow is below 2^83.
+/// Steps are at most 2^31 in size, their products 2^63 and those of a product and a step 2^95, so a shadow is at most
+/// 3 * 2^125, below 2^127.
 fn overlap_of_sound<const N: usize>(first: &[Space; N], second: &Triangle) -> Overlap {
     let (first_steps, second_steps) = (steps(first), steps(second));
     let (first_normal, second_normal) = (normal(&first_steps), normal(&second_steps));

@@ -54,7 +54,7 @@ pub fn edge_reach(first: &Triangle, second: &Triangle) -> Reach {
 /// within a wall, on the line of an edge, keeps all of itself at that wall, and the others cut it; of one that only
 /// touches, a point is left; and one with equal ends is kept or cut off as a whole.
 ///
-/// A height is at most 3 * 2^61 in size, by document 01; a place at a wall is a turn, at most 2^41.
+/// A height is at most 3 * 2^94 in size, and a place at a wall, which is a turn, at most 2^63.
 fn part_inside(segment: &Segment, triangle: &Triangle) -> Option<Part> {
     let [a, b, c] = *triangle;
     let height = |point: Space| side_by_formula(a, b, c, point);
@@ -72,7 +72,7 @@ fn part_inside(segment: &Segment, triangle: &Triangle) -> Option<Part> {
 /// The other segment is the points r + u (s - r) with u from 0 to 1. At the coordinate in which it is longest, a point
 /// x of the segment tells what u must be, (x - r) / (s - r) there. So x is on the other segment where this u is from 0
 /// to 1 and the other two coordinates agree with it, all of which is linear in x. Where r is s, x must be r in each
-/// coordinate. No number here is above 2^41 in size.
+/// coordinate. No number here is above 2^63 in size.
 fn part_on(segment: &Segment, [r, s]: &Segment) -> Option<Part> {
     let step = minus(*s, *r);
     let longest = (0..3).max_by_key(|k| step[*k].abs())?;
@@ -117,7 +117,9 @@ impl Part {
 
 /// A fraction over / under, with under above zero.
 ///
-/// With heights the numbers are at most 3 * 2^61 over 6 * 2^61, so what is compared is at most 18 * 2^122, below 2^127.
+/// With heights the numbers are at most 3 * 2^94 over 6 * 2^94, and their products have no room. So two fractions are
+/// compared by their whole parts and, where these are equal, by what is left of each, turned upside down. Each turn
+/// makes the numbers smaller.
 #[derive(Clone, Copy)]
 struct Fraction {
     over: i128,
@@ -126,7 +128,16 @@ struct Fraction {
 
 impl Fraction {
     fn is_below(self, other: Fraction) -> bool {
-        self.over * other.under < other.over * self.under
+        let [whole, other_whole] = [self, other].map(|fraction| fraction.over.div_euclid(fraction.under));
+        if whole != other_whole {
+            return whole < other_whole;
+        }
+        let [rest, other_rest] = [self, other].map(|fraction| fraction.over.rem_euclid(fraction.under));
+        if rest == 0 || other_rest == 0 {
+            return other_rest != 0;
+        }
+        let upside_down = |over, under| Fraction { over, under };
+        upside_down(other.under, other_rest).is_below(upside_down(self.under, rest))
     }
 
     fn raise(&mut self, over: i128, under: i128) {

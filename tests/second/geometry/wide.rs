@@ -3,8 +3,9 @@
 
 use std::ops::{Add, Mul, Neg, Sub};
 
-/// Of 64 bits each. The largest numbers that arise are below 2^320 in size.
-const WORDS: usize = 6;
+/// Of 64 bits each. The largest numbers that arise are below 2^477 in size. They are sums of products of numbers below
+/// 2^317 and below 2^158, of five words and three.
+const WORDS: usize = 8;
 
 type Words = [u64; WORDS];
 

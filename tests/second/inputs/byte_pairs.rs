@@ -39,32 +39,33 @@ fn any_slice(random: &mut Random, triangle: Vec<u8>) -> Vec<u8> {
     }
 }
 
-/// Of 524,288 and -524,288 the bytes are 0, 0, 8, 0 and 0, 0, 248, 255.
+/// Of 1,073,741,824 and -1,073,741,824 the bytes are 0, 0, 0, 64 and 0, 0, 0, 192.
 fn with_changed_byte(random: &mut Random, mut triangle: Vec<u8>) -> Vec<u8> {
     let place = random.index(TRIANGLE_BYTES);
     triangle[place] = match random.below(3) {
-        0 => random.pick(&[0, 1, 7, 8, 127, 128, 247, 248, 255]),
+        0 => random.pick(&[0, 1, 63, 64, 127, 128, 191, 192, 255]),
         1 => triangle[place] ^ 1 << random.below(8),
         _ => random.next() as u8,
     };
     triangle
 }
 
-/// Mostly on the grid, so that the highest byte is 0 or 255. Now and then that byte is turned over, or all bytes trade
-/// places, so that a lost sign or another order shows.
+/// Mostly on the grid, at its ends or near 0. Now and then the highest byte is turned over or is that of an end of the
+/// grid, or all bytes trade places, so that a lost sign or another order shows.
 fn telling_number(random: &mut Random) -> [u8; 4] {
     let number = match random.below(40) {
         0 => off_grid_number(random),
         1..=9 => GRID - random.between(0, 2),
         10..=19 => random.between(0, 2) - GRID,
-        20..=24 => random.pick(&[127, 128, 255, 256, 32_768, 65_535, 65_536]),
-        25..=29 => random.pick(&[-127, -128, -255, -256, -32_768, -65_535, -65_536]),
+        20..=24 => random.pick(&[127, 128, 255, 256, 32_768, 65_535, 65_536, 16_777_216]),
+        25..=29 => random.pick(&[-127, -128, -255, -256, -32_768, -65_535, -65_536, -16_777_216]),
         _ => random.between(-3, 3),
     };
     let mut bytes = number.to_le_bytes();
     match random.below(60) {
         0 => bytes[3] = !bytes[3],
-        1 => bytes.reverse(),
+        1 => bytes[3] = random.pick(&[63, 64, 191, 192]),
+        2 => bytes.reverse(),
         _ => {}
     }
     bytes

@@ -70,7 +70,7 @@ pub fn off_grid_number(random: &mut Random) -> i32 {
     match random.below(5) {
         0 => near,
         1 => -near,
-        2 => random.pick(&[i32::MIN, i32::MIN + 1, i32::MAX, i32::MAX - 1, 2 * GRID, -2 * GRID]),
+        2 => random.pick(&[i32::MIN, i32::MIN + 1, i32::MAX, i32::MAX - 1]),
         3 => random.between(GRID + 1, i32::MAX),
         _ => random.between(i32::MIN, -GRID - 1),
     }
@@ -94,7 +94,7 @@ pub fn flat_shape<const D: usize>(random: &mut Random, corners: usize) -> Vec<i3
 }
 
 fn slanted_line<const D: usize>(random: &mut Random, corners: usize) -> Vec<i32> {
-    let half = random.pick(&[3, 100, GRID / 8]);
+    let half = random.pick(&[3, 100, 100_000, GRID / 8]);
     let (origin, step): ([i32; D], [i32; D]) = (box_point(random, GRID / 2), box_point(random, half));
     let places = box_list(random, corners, 4);
     let point = |place: i32| -> [i32; D] { std::array::from_fn(|k| origin[k] + place * step[k]) };

@@ -77,7 +77,7 @@ impl Map {
     /// Half the maps keep areas (tiny area on long thin shapes), half have any two steps.
     fn any(random: &mut Random) -> Map {
         let origin = box_point(random, GRID / 2);
-        let half = random.pick(&[3, 100, GRID / 8]);
+        let half = random.pick(&[3, 100, 100_000, GRID / 8]);
         let step = primitive(box_point(random, half));
         let y_step = if random.once_in(2) {
             area_one_companion(step)
@@ -156,8 +156,9 @@ fn touching_lists(random: &mut Random, half: i32) -> Lists {
     let step: Vector = box_point(random, (half / parts).max(1));
     let start = loop {
         let start: Vector = box_point(random, half);
-        let end = [0, 1].map(|k| start[k] + parts * step[k]);
-        if end.iter().all(|n| n.abs() <= GRID) {
+        // On the whole grid the end may be beyond what 32 bits hold.
+        let end = [0, 1].map(|k| i64::from(start[k]) + i64::from(parts * step[k]));
+        if end.iter().all(|n| n.abs() <= i64::from(GRID)) {
             break start;
         }
     };
@@ -178,12 +179,13 @@ fn beyond(random: &mut Random, touch: Vector, edge: [Vector; 2], apex: Vector, h
     let point = box_point(random, half);
     let height = |p: Vector| {
         let ([ax, ay], [bx, by]) = (edge[0], edge[1]);
-        i64::from(bx - ax) * i64::from(p[1] - ay) - i64::from(by - ay) * i64::from(p[0] - ax)
+        let minus = |m: i32, n: i32| i128::from(m) - i128::from(n);
+        minus(bx, ax) * minus(p[1], ay) - minus(by, ay) * minus(p[0], ax)
     };
     let same_side = height(point).signum() == height(apex).signum();
-    let image = [0, 1].map(|k| 2 * touch[k] - point[k]);
-    if same_side && image.iter().all(|n| n.abs() <= GRID) && !random.once_in(8) {
-        image
+    let image = [0, 1].map(|k| 2 * i64::from(touch[k]) - i64::from(point[k]));
+    if same_side && image.iter().all(|n| n.abs() <= i64::from(GRID)) && !random.once_in(8) {
+        image.map(|n| n as i32)
     } else {
         point
     }

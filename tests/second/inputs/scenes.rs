@@ -65,7 +65,7 @@ fn any_scene(random: &mut Random) -> Scene {
 /// Triangles about a few centres: those of one centre often meet, those of two don't, or seldom.
 fn clusters(random: &mut Random) -> Scene {
     let centres: Vec<Vector> = (0..1 + random.index(5)).map(|_| box_point(random, GRID / 2)).collect();
-    let half = random.pick(&[1, 2, 5, 1_000, GRID / 2]);
+    let half = random.pick(&[1, 2, 5, 1_000, 1_500_000, GRID / 2]);
     let triangle = move |random: &mut Random| {
         let (centre, steps) = (random.pick(&centres), box_list(random, TRIANGLE_NUMBERS, half));
         moved(&steps, &centre)
@@ -76,7 +76,7 @@ fn clusters(random: &mut Random) -> Scene {
 /// Triangles between the corners of cells that fill space: those of two cells meet at most at a common side, an edge or
 /// a corner of both, where boxes around them only touch.
 fn cells(random: &mut Random) -> Scene {
-    let edge = random.pick(&[1, 3, 10_000, GRID / 2]);
+    let edge = random.pick(&[1, 3, 10_000, 1_000_000, GRID / 2]);
     let triangle = move |random: &mut Random| {
         let cell: Vector = [0; 3].map(|_| random.between(-2, 1));
         (0..3)

@@ -155,7 +155,8 @@ impl ShellTeller<'_> {
         let random = &mut *self.teller.random;
         if let ([Some(from), Some(to)], true) = (corners, random.once_in(2)) {
             let axes = random.pick(&[[1, 1, 1], [0, 1, 1], [0, 1, 1], [0, 1, 0], [0, 0, 1], [1, 0, 0]]);
-            return std::array::from_fn(|k| axes[k] * (to[k] - from[k]));
+            // From end to end of the grid it is a step too far for 32 bits.
+            return std::array::from_fn(|k| axes[k] * to[k].saturating_sub(from[k]));
         }
         let longest = random.pick(&[1, 1, 2, 4]);
         [0; 3].map(|_| random.between(-longest, longest))

@@ -197,8 +197,8 @@ fn loose(random: &mut Random) -> Vec<Body> {
 
 /// A block of any size up to that of the grid, and small pins anywhere in it, or close to a wall, an edge or a corner.
 fn pins_in_vast_block(random: &mut Random) -> Vec<Body> {
-    let low = [0; 3].map(|_| random.pick(&[-GRID, -GRID, 1 - GRID, -100_000]));
-    let high = [0; 3].map(|_| random.pick(&[GRID, GRID, GRID - 1, 100_003]));
+    let low = [0; 3].map(|_| random.pick(&[-GRID, -GRID, 1 - GRID, -100_000, -2_000_000]));
+    let high = [0; 3].map(|_| random.pick(&[GRID, GRID, GRID - 1, 100_003, 2_000_003]));
     let mut shells = vec![block(random, [low, high])];
     for _ in 0..1 + random.index(3) {
         let size = random.pick(&[1, 2, 3, 1_000]);
@@ -229,7 +229,7 @@ fn spread(random: &mut Random, bodies: Vec<Body>) -> Vec<Body> {
             1 => i64::from(random.between(100, GRID)),
             _ => 2 * grid,
         };
-        let start = i64::from(random.between(-GRID, GRID - extent as i32));
+        let start = i64::from(random.between(-GRID, (grid - extent) as i32));
         let start = random.pick(&[-grid, grid - extent, start]);
         [start, start + extent]
     });

@@ -265,7 +265,7 @@ fn split_now_and_then(random: &mut Random, mut shell: Shell) -> Shell {
 fn with_face_split(random: &mut Random, mut shell: Shell) -> Shell {
     let number = random.index(shell.len());
     let [a, b, c] = shell[number];
-    let middle = std::array::from_fn(|k| (a[k] + b[k] + c[k]).div_euclid(3));
+    let middle = middle_of(&[a, b, c]);
     let pieces = [[a, b, middle], [b, c, middle], [c, a, middle]];
     if is_new(&shell, middle) && is_sound(&pieces) {
         shell.swap_remove(number);
@@ -283,13 +283,21 @@ fn with_edge_split(random: &mut Random, mut shell: Shell) -> Shell {
     let Some(other @ [.., d]) = others.find(|[from, to, _]| [*from, *to] == [b, a]) else {
         return shell;
     };
-    let middle = std::array::from_fn(|k| (a[k] + b[k]).div_euclid(2));
+    let middle = middle_of(&[a, b]);
     let pieces = [[a, middle, c], [middle, b, c], [b, middle, d], [middle, a, d]];
     if is_new(&shell, middle) && is_sound(&pieces) {
         shell.retain(|facet| !turns(facet).contains(&[a, b, c]) && !turns(facet).contains(&other));
         shell.extend(pieces);
     }
     shell
+}
+
+/// Rounded down.
+fn middle_of(points: &[Vertex]) -> Vertex {
+    std::array::from_fn(|k| {
+        let sum: i64 = points.iter().map(|point| i64::from(point[k])).sum();
+        sum.div_euclid(points.len() as i64) as i32
+    })
 }
 
 fn is_new(shell: &[Facet], point: Vertex) -> bool {

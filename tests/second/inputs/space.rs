@@ -26,7 +26,8 @@ pub fn any_side(random: &mut Random) -> Call {
         15..=34 => box_list(random, SIDE_NUMBERS, 2),
         35..=44 => box_list(random, SIDE_NUMBERS, GRID),
         45..=59 => extreme_list(random, SIDE_NUMBERS),
-        60..=74 => coplanar_points(random),
+        60..=69 => coplanar_points(random),
+        70..=74 => power_points(random),
         75..=84 => sheared_points(random),
         _ => bad_list(random, SIDE_NUMBERS),
     })
@@ -160,7 +161,7 @@ impl Layout {
 
     /// Anywhere on the grid, for pictures of at most so many steps.
     pub fn any(random: &mut Random, most_steps: i32) -> Layout {
-        let half = random.pick(&[2, 40, GRID]).min(GRID / 2 / most_steps);
+        let half = random.pick(&[2, 40, 150_000, GRID]).min(GRID / 2 / most_steps);
         Layout {
             origin: box_point(random, GRID / 2),
             steps: [0; 3].map(|_| box_point(random, half)),
@@ -255,8 +256,8 @@ struct Slant {
 }
 
 impl Slant {
-    /// Points of at most 2 in size stay on the grid with slants of up to 350; points of at most 4 stay within half the
-    /// grid with slants of up to 180.
+    /// Points of at most 2 in size stay on the grid with slants of up to 16,380; points of at most 4 stay within half the
+    /// grid with slants of up to 8,190.
     fn any(random: &mut Random, most: i32) -> Slant {
         Slant {
             first_axis: random.index(3),
@@ -277,14 +278,37 @@ impl Slant {
 }
 
 fn sheared_points(random: &mut Random) -> Vec<i32> {
-    let slant = Slant::any(random, 350);
+    let slant = Slant::any(random, 16_380);
     slant.list(box_list(random, SIDE_NUMBERS, 2))
 }
 
 /// Tiny lists slanted far.
 pub fn sheared(random: &mut Random, (first, second): Lists) -> Lists {
-    let (slant, origin): (_, Vector) = (Slant::any(random, 180), box_point(random, GRID / 2));
+    let (slant, origin): (_, Vector) = (Slant::any(random, 8_190), box_point(random, GRID / 2));
     (moved(&slant.list(first), &origin), moved(&slant.list(second), &origin))
+}
+
+/// Four points whose determinant is a power of two up to its sign, 2^62 to 2^66, or with one number off by one: where its
+/// low 64 bits are all zero, and next to that.
+fn power_points(random: &mut Random) -> Vec<i32> {
+    let power = random.between(62, 66);
+    let first = random.between(power - 60, 30);
+    let second = random.between(power - first - 30, 30.min(power - first));
+    let origin: Vector = [0; 3].map(|_| random.between(-GRID, 0));
+    let mut points = vec![origin; 4];
+    for (k, exponent) in [first, second, power - first - second].into_iter().enumerate() {
+        points[k][k] += 1 << exponent;
+        (0..k).for_each(|earlier| points[k][earlier] += random.between(0, GRID));
+    }
+    for k in 0..4 {
+        let other = random.index(4);
+        points.swap(k, other);
+    }
+    let mut list = points.concat();
+    if random.once_in(2) {
+        nudge(random, &mut list);
+    }
+    list
 }
 
 /// Four points of one plane, or with one number off by one.

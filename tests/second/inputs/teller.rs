@@ -121,7 +121,8 @@ impl<'a> Teller<'a> {
         }
         let call = self.shift();
         if let PlateCall::Shift { part, by } = call {
-            let by = by.map(|n| -n);
+            // The way back of the longest move is a step too far for 32 bits.
+            let by = by.map(i32::saturating_neg);
             self.back = Some(PlateCall::Shift { part, by });
         }
         call
@@ -151,16 +152,17 @@ impl<'a> Teller<'a> {
         PlateCall::Shift { part, by }
     }
 
-    /// The move along an axis that takes the part's outermost coordinate so far beyond the end of the grid.
+    /// The move along an axis that takes the part's outermost coordinate so far beyond the end of the grid, or as far
+    /// as 32 bits go.
     fn way_to_end(&mut self, part: u32, axis: usize, beyond: i32) -> i32 {
         let pieces = pieces_of(self.plate.slots(), part);
         let places = pieces.flat_map(|(_, piece)| [0, 3, 6].map(|corner| piece.corners[corner + axis]));
         let places: Vec<i32> = places.collect();
         let (low, high) = (places.iter().min(), places.iter().max());
         if self.random.once_in(2) {
-            GRID - high.unwrap_or(&0) + beyond
+            GRID.saturating_sub(*high.unwrap_or(&0)).saturating_add(beyond)
         } else {
-            -GRID - low.unwrap_or(&0) - beyond
+            (-GRID).saturating_sub(*low.unwrap_or(&0)).saturating_sub(beyond)
         }
     }
 
@@ -170,11 +172,11 @@ impl<'a> Teller<'a> {
         self.random.pick(&[power, -power])
     }
 
-    /// Takes a corner of a triangle of the pool to one of another: what was apart may touch then.
+    /// Takes a corner of a triangle of the pool to one of another, as far as 32 bits go: what was apart may touch then.
     fn corner_to_corner(&mut self) -> Move {
         let [from, to] = [0; 2].map(|_| self.random.pick(&self.pool));
         let [one, other] = [0; 2].map(|_| 3 * self.random.index(3));
-        std::array::from_fn(|k| to[other + k] - from[one + k])
+        std::array::from_fn(|k| to[other + k].saturating_sub(from[one + k]))
     }
 
     // ---- Questions ----

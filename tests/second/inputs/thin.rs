@@ -67,15 +67,16 @@ fn corner_of(triangle: &[i32], i: usize) -> Vector {
 
 /// With a corner in the middle of the other two, where that is whole; else of some that are nearer to each other.
 fn halved(a: Vector, b: Vector) -> [Vector; 3] {
-    let step: Vector = std::array::from_fn(|k| (b[k] - a[k]) / 2);
-    [0, 2, 1].map(|steps| std::array::from_fn(|k| a[k] + steps * step[k]))
+    // Two steps from one end of the grid to the other have no room in 32 bits; where they lead has.
+    let step: [i64; 3] = std::array::from_fn(|k| (i64::from(b[k]) - i64::from(a[k])) / 2);
+    [0, 2, 1].map(|steps| std::array::from_fn(|k| (i64::from(a[k]) + steps * step[k]) as i32))
 }
 
 /// With b in the middle of the other two, or at one of them where the third would be beyond the limit.
 fn doubled(a: Vector, b: Vector, limit: i32) -> [Vector; 3] {
-    let far: Vector = std::array::from_fn(|k| 2 * b[k] - a[k]);
-    if far.iter().all(|n| n.abs() <= limit) {
-        [far, b, a]
+    let far: [i64; 3] = std::array::from_fn(|k| 2 * i64::from(b[k]) - i64::from(a[k]));
+    if far.iter().all(|n| n.abs() <= i64::from(limit)) {
+        [far.map(|n| n as i32), b, a]
     } else {
         [b, b, a]
     }

@@ -23,8 +23,8 @@ pub struct BytePairTally {
     mixtures: FaultMixtures,
     /// Slices of a wrong length, by side and length and by whether the other's is wrong too.
     wrong_lengths: BTreeMap<(usize, usize, bool), u64>,
-    /// Numbers that are the only one off the grid, by side and place and by whether the three low bytes are those of a
-    /// number of the grid.
+    /// Numbers that are the only one off the grid, by side and place and by whether no number of the grid has their
+    /// highest byte. Else that is the byte of the grid's end, and the low ones are too much.
     lone_numbers: BTreeMap<(usize, usize, bool), u64>,
 }
 
@@ -62,9 +62,8 @@ impl BytePairTally {
             off_grid.extend(bad.map(|(place, number)| (side, place, number)));
         }
         if let [(side, place, number)] = off_grid[..] {
-            let of_low_bytes = number << 8 >> 8;
-            let number = (side, place, is_on_grid(of_low_bytes));
-            *self.lone_numbers.entry(number).or_default() += 1;
+            let [highest, end] = [number, GRID].map(|number| number.to_le_bytes()[3]);
+            *self.lone_numbers.entry((side, place, highest != end)).or_default() += 1;
         }
     }
 
@@ -100,7 +99,7 @@ impl BytePairTally {
     }
 
     /// Each wrong length that tells most, alone and beside another, and each place of a number that alone is off the
-    /// grid, for its highest byte only and otherwise.
+    /// grid, for its highest byte and otherwise.
     fn fine_counts(&self) -> Vec<Count> {
         let mut counts = Vec::new();
         let cases = SIDES
@@ -112,7 +111,7 @@ impl BytePairTally {
                 counts.push((name, count_of(&self.wrong_lengths, &(side, length, case))));
             }
             for place in 0..TRIANGLE_NUMBERS {
-                let name = format!("off the grid at {place} alone, side {side}, by the highest byte only: {case}");
+                let name = format!("off the grid at {place} alone, side {side}, by the highest byte: {case}");
                 counts.push((name, count_of(&self.lone_numbers, &(side, place, case))));
             }
         }

@@ -1,7 +1,7 @@
 //! Stories of request Q-4: a part swallowed by another, in its hollow or beside it, and open shells. The answers are
 //! those of the request's words, worked out by hand.
 
-use super::{place, shift, Script, Stored, L};
+use super::{place, shift, Script, Stored, END};
 use crate::answers::plate::{Corners, Move, PlateCall, MOST_REACH};
 use crate::answers::Answer;
 
@@ -237,10 +237,10 @@ fn shells_of_one_part() -> Stored {
 
 fn block_as_large_as_the_grid() -> Stored {
     let mut script = Script::default();
-    script.place_all(0, 15, &block(-L, L));
-    script.place_all(12, 14, &pin([1 - L; 3], 1));
+    script.place_all(0, 15, &block(-END, END));
+    script.place_all(12, 14, &pin([1 - END; 3], 1));
     script.ask_both_ways(14, 15, YES);
-    script.move_and_ask(14, [2 * L - 3, 2 * L - 3, 2 * L - 3], 15, YES);
-    script.move_and_ask(14, [3 - 2 * L, 0, 1 - L], 15, YES);
+    script.move_and_ask(14, [END - 3 + END; 3], 15, YES);
+    script.move_and_ask(14, [3 - END - END, 0, 1 - END], 15, YES);
     script.stored("a block as large as the grid")
 }
