@@ -1,9 +1,10 @@
 //! The bench rows of document 01 that concern these calls, with their results as fixed numbers, and the example of
 //! document 02.
 //! Rows of triangles in the plane z = 0 are taken as flat pairs as well, with z left out. Row 12 goes on with wires and
-//! pins of many kinds.
+//! pins of many kinds, and row P11 with determinants of numbers as large as the grid.
 
 pub mod byte_pairs;
+mod determinants;
 mod listings;
 pub mod sheets;
 pub mod stories;
@@ -18,6 +19,7 @@ pub struct Row {
 }
 
 const MINUS_ONE: Answer = Answer::served(0);
+const ZERO: Answer = Answer::served(1);
 const PLUS_ONE: Answer = Answer::served(2);
 const APART: Answer = Answer::served(0);
 const MEETING: Answer = Answer::served(1);
@@ -44,6 +46,7 @@ pub fn rows() -> Vec<Row> {
     rows.extend(rows_of_wires_and_pins());
     rows.extend(rows_at_the_end_of_the_grid());
     rows.extend(space_rows_at_the_end_of_the_grid());
+    rows.extend(determinants::rows());
     rows.extend(listings::rows());
     rows
 }

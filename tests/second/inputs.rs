@@ -1,11 +1,14 @@
 //! Random inputs of many kinds: tiny grids where special cases abound, the whole grid and its ends, shapes that touch
-//! or nearly do, flat shapes of every kind, every kind of bad list, triangles as bytes, stories of plates, some of them
-//! with closed shells, and job sheets, good and broken.
+//! or nearly do, determinants made to measure, flat shapes of every kind, every kind of bad list, triangles as bytes,
+//! stories of plates, some of them with closed shells, and job sheets, good and broken. And every pattern of ends of
+//! the grid.
 
 mod breaks;
 mod byte_pairs;
+pub mod ends;
 mod faulty;
 mod listing;
+mod measured;
 mod plane;
 mod pools;
 mod scenes;
@@ -17,6 +20,7 @@ mod space;
 mod stories;
 mod teller;
 mod thin;
+mod wrapping;
 
 pub use byte_pairs::{any_byte_pair, WRONG_LENGTHS};
 pub use faulty::LONGEST_BAD_LIST;

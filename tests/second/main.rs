@@ -1,6 +1,7 @@
-//! The second program: puts the bench rows of document 01, many random inputs, pairs of triangles in space as bytes
-//! too, many random stories of a plate and many random job sheets to the library under check, finds every answer by
-//! means of its own, and compares. With `--text` it asks nothing, but writes pairs and their answers as text.
+//! The second program: puts the bench rows of document 01, all patterns of ends of the grid, many random inputs, pairs
+//! of triangles in space as bytes too, many random stories of a plate and many random job sheets to the library under
+//! check, finds every answer by means of its own, and compares. With `--text` it asks nothing, but writes pairs and
+//! their answers as text.
 //! `tests/second/run` says how it is called.
 //!
 //! Exit status: 0 no disagreement; 1 a disagreement, a failure of the calls, or a case never met;
@@ -12,6 +13,7 @@ mod byte_pair;
 mod byte_pairs;
 mod call;
 mod door;
+mod ends;
 mod geometry;
 mod inputs;
 mod plates;
@@ -228,11 +230,15 @@ fn compare_all(mut door: Door, settings: &Settings) -> Result<String, String> {
 /// Compares the door, and this program as well, with all fixed results.
 fn compare_fixed(door: &mut Door, seed: u64) -> Result<(), String> {
     let rows = compare_bench(door, seed)?;
+    let at_ends = ends::compare_all(door, seed)?;
     let byte_pairs = byte_pairs::compare_stored(door, seed)?;
     let stories = plates::compare_stored(door, seed)?;
     let sheets = sheets::compare_stored(door, seed)?;
     say(&format!(
         "bench: {rows} rows, {byte_pairs} pairs as bytes, {stories} stories and {sheets} sheets compared"
+    ));
+    say(&format!(
+        "ends of the grid: {at_ends} calls compared, in all patterns of signs"
     ));
     Ok(())
 }

@@ -64,6 +64,7 @@ impl Script {
 
 pub fn stored() -> Vec<Stored> {
     let mut stored = vec![example(), Script::default().stored("an empty sheet"), all_refusals()];
+    stored.push(from_end_to_end());
     stored.extend(unknown_fields());
     stored.extend(cut_fields());
     stored.extend(long_sheets());
@@ -101,6 +102,23 @@ fn all_refusals() -> Stored {
         .line("0 0");
     script = script.place(63, 15, A).line("0 1");
     script.stored("every refusal of a field")
+}
+
+/// A goes from the upper end of the grid to the lower one by the lowest 32-bit number, and back by the highest and a
+/// step.
+fn from_end_to_end() -> Stored {
+    let high_a = |z: i32| [0, 0, z, 4, 0, z, 0, 4, z];
+    let mut script = Script::default().place(0, 0, high_a(END)).line("0 0");
+    script = script.place(1, 1, high_a(-END)).line("0 0");
+    script = script.place(2, 2, high_a(END + 1)).line("1 0");
+    script = script.shift(0, [0, 0, i32::MIN]).line("0 1");
+    script = script.shift(0, [0, 0, i32::MIN]).line("11 1");
+    script = script.shift(0, [0, 0, i32::MAX]).line("0 0");
+    script = script.shift(0, [0, 0, i32::MAX]).line("11 0");
+    script = script.shift(0, [0, 0, 1]).line("0 0");
+    script = script.shift(0, [0, 0, 1]).line("11 0");
+    script = script.undo().line("0 0").undo().line("0 1").undo().line("0 0");
+    script.stored("from end to end of the grid")
 }
 
 /// What is no field, whole or with its body cut: a line with 13 and the count as it stands, and nothing after it.

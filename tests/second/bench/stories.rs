@@ -53,6 +53,9 @@ pub fn stored() -> Vec<Stored> {
         questions(),
         ends_of_the_grid(),
         moves_too_long(),
+        longest_moves(0),
+        longest_moves(1),
+        longest_moves(2),
         slot_filled_again(),
         unknown_kind(),
     ];
@@ -235,6 +238,38 @@ fn moves_too_long() -> Stored {
         script.served(shift(2, [0, 0, -1]), 0, reach + 1);
     }
     script.stored("moves too long")
+}
+
+/// Moves by the ends of the 32-bit numbers along an axis, which lead from one end of the grid to the other or a step
+/// less, and a step further are refused; and their undos, of which one is a move that has no room in 32 bits.
+fn longest_moves(axis: usize) -> Stored {
+    let wall = |height: i32| -> Corners {
+        let high_a = [0, 0, height, 4, 0, height, 0, 4, height];
+        std::array::from_fn(|k| high_a[k / 3 * 3 + (k + 2 - axis) % 3])
+    };
+    let along = |part: u32, by: i32| shift(part, std::array::from_fn(|k| if k == axis { by } else { 0 }));
+    let refused = |slot| Answer::refused(11, 0, slot);
+    let mut script = Script::default();
+    script.served(place(0, 1, wall(END)), 0, 1);
+    script.served(place(1, 2, wall(-END)), 0, 2);
+    script.call(along(1, i32::MAX), refused(0), 0, 2);
+    script.served(along(1, i32::MIN), 1, 3);
+    script.call(along(1, i32::MIN), refused(0), 1, 3);
+    script.served(along(1, i32::MAX), 0, 4);
+    script.call(along(1, i32::MIN), refused(0), 0, 4);
+    script.served(along(1, i32::MIN + 1), 1, 5);
+    script.call(along(2, i32::MIN), refused(1), 1, 5);
+    script.served(along(2, i32::MAX), 0, 6);
+    script.call(along(2, i32::MAX), refused(1), 0, 6);
+    for (reach, count) in [(5, 1), (4, 0), (3, 1), (2, 0)] {
+        script.served(PlateCall::Undo, count, reach);
+    }
+    script.served(place(9, 3, wall(END)), 1, 3);
+    script.served(along(3, i32::MIN), 1, 4);
+    script.served(PlateCall::Undo, 1, 3);
+    script.served(place(8, 3, wall(END - 1)), 1, 4);
+    script.call(along(3, i32::MIN), refused(8), 1, 4);
+    script.stored("the longest moves")
 }
 
 /// A lifted slot can be filled again, and each undo brings back the part and the triangle that stood there.

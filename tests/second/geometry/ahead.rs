@@ -10,10 +10,10 @@
 //!     n^4 (n^2 s + n t + u),
 //!
 //! where s is that sum before, and t and u are turns of the triangle's shadows along y and z. The differences are at
-//! most 2^31 in size, and t and u at most 2^62, since no triangle within a square has more than half its area. All these
-//! are whole numbers; so from n = 2^63 on the first of three that isn't zero outweighs those after it, since n^2 is at
-//! least 2^62 n and as much again, and n is more than 2^62. From there on no sign changes any more, and what is counted
-//! at 2^63 is counted at every larger n.
+//! most 2^31 in size, and t and u at most 2^62, since no triangle within a square has more than half its area. All
+//! these are whole numbers; so from n = 2^63 on the first of three that isn't zero outweighs those after it, since n^2
+//! is at least 2^62 n and as much again, and n is more than 2^62. From there on no sign changes any more, and what is
+//! counted at 2^63 is counted at every larger n.
 
 use super::signs::shadow_turn;
 use super::wide::Wide;
@@ -29,8 +29,8 @@ pub fn is_odd_number_ahead(point: Space, triangles: &[Triangle]) -> bool {
 /// between the point's shadow and the edges' are the weights of the only mixture that can, all scaled by the same
 /// number.
 ///
-/// From the moved point on, coordinates are at most 2^157 and 2^63 more in size, so below 2^158; weights are below 2^317,
-/// and the sum of their products with an x is below 2^477.
+/// From the moved point on, coordinates are at most 2^157 and 2^63 more in size, so below 2^158; weights are below
+/// 2^317, and the sum of their products with an x is below 2^477.
 fn is_ahead(point: Space, triangle: &Triangle) -> bool {
     let n = LARGE_ENOUGH;
     let square = Wide::from(n * n);

@@ -117,8 +117,8 @@ impl Part {
 
 /// A fraction over / under, with under above zero.
 ///
-/// With heights the numbers are at most 3 * 2^94 over 6 * 2^94, and their products have no room. So two fractions are
-/// compared by their whole parts and, where these are equal, by what is left of each, turned upside down. Each turn
+/// With heights the numbers are at most 3 * 2^94 over 6 * 2^94, and their products may have no room. Then two fractions
+/// are compared by their whole parts and, where these are equal, by what is left of each, turned upside down. Each turn
 /// makes the numbers smaller.
 #[derive(Clone, Copy)]
 struct Fraction {
@@ -128,6 +128,11 @@ struct Fraction {
 
 impl Fraction {
     fn is_below(self, other: Fraction) -> bool {
+        let products =
+            [(self.over, other.under), (other.over, self.under)].map(|(over, under)| over.checked_mul(under));
+        if let [Some(product), Some(other_product)] = products {
+            return product < other_product;
+        }
         let [whole, other_whole] = [self, other].map(|fraction| fraction.over.div_euclid(fraction.under));
         if whole != other_whole {
             return whole < other_whole;

@@ -34,8 +34,8 @@ fn crossings(point: Space, direction: Space, triangles: &[Triangle]) -> Option<u
 ///
 /// With the point as the origin, direction * [a,b,c] is the mixture of a, b, c with the weights [direction,b,c],
 /// [direction,c,a] and [direction,a,b]. So the line meets the triangle where no two of these have opposite signs, and
-/// that is ahead where [a,b,c] has their sign. Corners are at most 2^31 in size, their products 2^63, and a direction is
-/// below 2^20; so no number here is above 2^96 in size.
+/// that is ahead where [a,b,c] has their sign. Corners are at most 2^31 in size, their products 2^63, and a direction
+/// is below 2^20; so no number here is above 2^96 in size.
 pub fn crosses(point: Space, direction: Space, triangle: &Triangle) -> Option<usize> {
     let corners = triangle.map(|corner| minus(corner, point));
     let weights = edges_of(&corners).map(|[from, to]| dot(direction, product(from, to)));

@@ -15,12 +15,13 @@ const SMALLEST: i32 = 3;
 
 /// Never empty, and nothing in it is flat or off the grid.
 pub fn any_pool(random: &mut Random) -> Vec<Corners> {
-    let list = match random.below(12) {
+    let list = match random.below(13) {
         0..=2 => smallest_list(random),
         3 => level_list(random),
         4 => extreme_list(random, TRIANGLE_NUMBERS * MOST_IN_A_POOL),
         5..=6 => cornered_list(random),
         7 => return few_of(random),
+        8 => wall_list(random),
         _ => {
             let (first, second) = any_runs(random, [MOST_IN_A_POOL / 2; 2]);
             [first, second].concat()
@@ -48,6 +49,17 @@ fn level_list(random: &mut Random) -> Vec<i32> {
     let (axis, height) = (random.index(3), random.pick(&[-1, 0, 0, 0, 1, GRID, -GRID]));
     let mut list = smallest_list(random);
     list.chunks_mut(3).for_each(|corner| corner[axis] = height);
+    list
+}
+
+/// All in a side of the grid, or a step before it: they may go to the other side by a move as long as 32 bits allow.
+fn wall_list(random: &mut Random) -> Vec<i32> {
+    let (axis, end, slack) = (random.index(3), random.pick(&[1, -1]), random.pick(&[0, 0, 1]));
+    let mut list = smallest_list(random);
+    for triangle in list.chunks_mut(TRIANGLE_NUMBERS) {
+        let height = end * (GRID - random.between(0, slack));
+        triangle.chunks_mut(3).for_each(|corner| corner[axis] = height);
+    }
     list
 }
 

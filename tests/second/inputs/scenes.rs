@@ -27,7 +27,7 @@ pub fn tiny_runs(random: &mut Random, sizes: [usize; 2]) -> Lists {
     let scene = tiny_scene(random);
     let mut lists = gathered(random, &scene, sizes);
     match random.below(6) {
-        0 => lists = magnified(lists),
+        0 => lists = magnified(random, lists),
         1 => lists = sheared(random, lists),
         _ => {}
     }

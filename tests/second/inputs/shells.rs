@@ -2,7 +2,8 @@
 //! it, or touching; several shells in one part; on tiny grids, where a ray from a corner runs through corners and edges
 //! and along walls, and spread from there to the ends of the grid.
 
-use super::solids::{any_solid, block, large_solid, turned, Bounds, Facet, Shell, Vertex};
+use super::measured::tetrahedra_at_wall;
+use super::solids::{any_solid, block, is_sound, large_solid, tetrahedron_of, turned, Bounds, Facet, Shell, Vertex};
 use crate::answers::plate::SLOTS;
 use crate::answers::GRID;
 use crate::random::Random;
@@ -35,7 +36,8 @@ fn small_or_vast_scene(random: &mut Random, tiny: bool) -> Vec<Body> {
     }
     let bodies = match random.below(10) {
         0 => pins_in_vast_block(random),
-        1..=3 => {
+        1 => pin_at_slanted_wall(random),
+        2..=4 => {
             let bodies = small_scene(random);
             spread(random, bodies)
         }
@@ -209,6 +211,16 @@ fn pins_in_vast_block(random: &mut Random) -> Vec<Body> {
         shells.push(any_solid(random, [start, start.map(|n| n + size)]));
     }
     bodies_of(random, shells)
+}
+
+/// A vast tetrahedron, and a small one with its tip in a wall of it, or as near to the wall as a whole point can be.
+fn pin_at_slanted_wall(random: &mut Random) -> Vec<Body> {
+    loop {
+        let shells = tetrahedra_at_wall(random).map(tetrahedron_of);
+        if shells.iter().all(|shell| is_sound(shell)) {
+            return bodies_of(random, shells.to_vec());
+        }
+    }
 }
 
 /// The scene made large or moved far: to the ends of the grid, or anywhere on it.

@@ -79,7 +79,7 @@ fn tetrahedron(random: &mut Random, bounds: Bounds) -> Shell {
     tetrahedron_of(corners)
 }
 
-fn tetrahedron_of([a, b, c, d]: [Vertex; 4]) -> Shell {
+pub fn tetrahedron_of([a, b, c, d]: [Vertex; 4]) -> Shell {
     vec![[a, c, b], [a, b, d], [b, c, d], [a, d, c]]
 }
 

@@ -2,8 +2,10 @@
 //! each kind of pair serves both calls.
 
 use super::faulty::{any_fault_shape, bad_list};
+use super::measured::{measured_lists, measured_points};
 use super::plane::{small_picture, SMALL};
 use super::thin::{any_thin_lists, thinned_lists};
+use super::wrapping::{wrapping_lists, wrapping_points};
 use super::{any_half, box_list, box_lists, box_point, extreme_list, extreme_lists, moved, nested_lists, nudge};
 use super::{sharing_lists, shuffled, traded, Lists};
 use crate::answers::{FLAT_TRIANGLE_NUMBERS, GRID, SEGMENT_NUMBERS, SIDE_NUMBERS, TRIANGLE_NUMBERS};
@@ -22,13 +24,15 @@ const TINY_THIN_ONCE_IN: u64 = 3;
 
 pub fn any_side(random: &mut Random) -> Call {
     Call::Side(match random.below(100) {
-        0..=14 => box_list(random, SIDE_NUMBERS, 1),
-        15..=34 => box_list(random, SIDE_NUMBERS, 2),
-        35..=44 => box_list(random, SIDE_NUMBERS, GRID),
-        45..=59 => extreme_list(random, SIDE_NUMBERS),
-        60..=69 => coplanar_points(random),
-        70..=74 => power_points(random),
-        75..=84 => sheared_points(random),
+        0..=11 => box_list(random, SIDE_NUMBERS, 1),
+        12..=25 => box_list(random, SIDE_NUMBERS, 2),
+        26..=33 => box_list(random, SIDE_NUMBERS, GRID),
+        34..=45 => extreme_list(random, SIDE_NUMBERS),
+        46..=55 => coplanar_points(random),
+        56..=65 => measured_points(random),
+        66..=70 => wrapping_points(random),
+        71..=75 => powered_points(random),
+        76..=84 => sheared_points(random),
         _ => bad_list(random, SIDE_NUMBERS),
     })
 }
@@ -105,9 +109,14 @@ pub fn any_lists(random: &mut Random) -> Lists {
     let half = any_half(random);
     let (mut first, second) = match random.below(100) {
         0..=39 => return tiny_lists(random),
-        40..=44 => return box_lists(random, TRIANGLE_NUMBERS, GRID),
-        45..=50 => return extreme_lists(random, TRIANGLE_NUMBERS),
-        51..=58 => magnified(tiny_lists(random)),
+        40..=42 => return box_lists(random, TRIANGLE_NUMBERS, GRID),
+        43..=47 => return extreme_lists(random, TRIANGLE_NUMBERS),
+        48..=49 => return measured_lists(random),
+        50 => return wrapping_lists(random),
+        51..=58 => {
+            let lists = tiny_lists(random);
+            magnified(random, lists)
+        }
         59..=66 => {
             let lists = tiny_lists(random);
             sheared(random, lists)
@@ -220,10 +229,32 @@ fn coplanar_lists(random: &mut Random) -> Lists {
     Layout::of_any_plane(random).flat_lists(small_picture(random))
 }
 
-/// Tiny lists made as large as the grid.
-pub fn magnified((first, second): Lists) -> Lists {
-    let large = |list: Vec<i32>| list.iter().map(|n| GRID / TINY * n).collect();
-    (large(first), large(second))
+/// Tiny lists made as large as the grid, or so large along each axis that volumes are multiples of 2^62 to 2^66.
+pub fn magnified(random: &mut Random, (first, second): Lists) -> Lists {
+    let powers = if random.once_in(2) {
+        any_powers(random)
+    } else {
+        [MOST_POWER; 3]
+    };
+    (made_large(&first, powers), made_large(&second, powers))
+}
+
+/// 2 to this times `TINY` is the end of the grid.
+const MOST_POWER: i32 = 28;
+
+/// Such that tiny points stay within half the grid.
+fn any_powers(random: &mut Random) -> Vector {
+    let (most, sum) = (MOST_POWER - 1, random.between(62, 66));
+    let first = random.between(sum - 2 * most, most);
+    let second = random.between(sum - first - most, most);
+    [first, second, sum - first - second]
+}
+
+fn made_large(list: &[i32], powers: Vector) -> Vec<i32> {
+    list.iter()
+        .zip(powers.iter().cycle())
+        .map(|(n, power)| n << power)
+        .collect()
 }
 
 /// A corner or an edge of the first triangle is at a whole point of the second, or just beside the second.
@@ -256,8 +287,8 @@ struct Slant {
 }
 
 impl Slant {
-    /// Points of at most 2 in size stay on the grid with slants of up to 16,380; points of at most 4 stay within half the
-    /// grid with slants of up to 8,190.
+    /// Points of at most 2 in size stay on the grid with slants of up to 16,380; points of at most 4 stay within half
+    /// the grid with slants of up to 8,190.
     fn any(random: &mut Random, most: i32) -> Slant {
         Slant {
             first_axis: random.index(3),
@@ -288,23 +319,12 @@ pub fn sheared(random: &mut Random, (first, second): Lists) -> Lists {
     (moved(&slant.list(first), &origin), moved(&slant.list(second), &origin))
 }
 
-/// Four points whose determinant is a power of two up to its sign, 2^62 to 2^66, or with one number off by one: where its
-/// low 64 bits are all zero, and next to that.
-fn power_points(random: &mut Random) -> Vec<i32> {
-    let power = random.between(62, 66);
-    let first = random.between(power - 60, 30);
-    let second = random.between(power - first - 30, 30.min(power - first));
-    let origin: Vector = [0; 3].map(|_| random.between(-GRID, 0));
-    let mut points = vec![origin; 4];
-    for (k, exponent) in [first, second, power - first - second].into_iter().enumerate() {
-        points[k][k] += 1 << exponent;
-        (0..k).for_each(|earlier| points[k][earlier] += random.between(0, GRID));
-    }
-    for k in 0..4 {
-        let other = random.index(4);
-        points.swap(k, other);
-    }
-    let mut list = points.concat();
+/// Four points of a tiny grid made large along each axis by a power of 2, so that their determinant and each product in
+/// it is a multiple of 2^62 to 2^66; or with one number off by one.
+fn powered_points(random: &mut Random) -> Vec<i32> {
+    let (powers, origin): (_, Vector) = (any_powers(random), box_point(random, GRID / 2));
+    let large = made_large(&box_list(random, SIDE_NUMBERS, 2), powers);
+    let mut list = moved(&large, &origin);
     if random.once_in(2) {
         nudge(random, &mut list);
     }

@@ -91,6 +91,7 @@ fn next_call(teller: &mut Teller, phase: Phase) -> PlateCall {
         Phase::Changes => teller.change(),
         Phase::Undos => PlateCall::Undo,
         Phase::Swing => teller.swing(),
+        Phase::Far if teller.random.once_in(6) => PlateCall::Undo,
         Phase::Far => teller.far_shift(),
         Phase::Questions => teller.question(),
         Phase::Bad => teller.bad_call(),

@@ -130,13 +130,15 @@ impl<'a> Teller<'a> {
 
     // ---- To the ends of the grid and beyond ----
 
-    /// As far as a part can go along an axis, or one too far, or by a move that no triangle can take.
+    /// As far as a part can go along an axis, or one too far, or by a move that no triangle can take but one at an end
+    /// of the grid.
     pub fn far_shift(&mut self) -> PlateCall {
         if self.tiny {
             return self.shift();
         }
         let part = self.any_part();
-        let axis = self.random.index(3);
+        let any_axis = self.random.index(3);
+        let axis = self.axis_across_wall(part).unwrap_or(any_axis);
         let mut by = [0; 3];
         by[axis] = match self.random.below(8) {
             0..=4 => {
@@ -152,12 +154,27 @@ impl<'a> Teller<'a> {
         PlateCall::Shift { part, by }
     }
 
+    /// An axis along which all of the part is at one place, an end of the grid or a step before it: there it may go to
+    /// the other end.
+    fn axis_across_wall(&self, part: u32) -> Option<usize> {
+        (0..3).find(|axis| {
+            let places = self.places_of(part, *axis);
+            let is_wall = |first: &i32| first.abs() >= GRID - 1 && places.iter().all(|place| place == first);
+            places.first().is_some_and(is_wall)
+        })
+    }
+
+    /// Of each corner of the part its place along an axis.
+    fn places_of(&self, part: u32, axis: usize) -> Vec<i32> {
+        let pieces = pieces_of(self.plate.slots(), part);
+        let places = pieces.flat_map(|(_, piece)| [0, 3, 6].map(|corner| piece.corners[corner + axis]));
+        places.collect()
+    }
+
     /// The move along an axis that takes the part's outermost coordinate so far beyond the end of the grid, or as far
     /// as 32 bits go.
     fn way_to_end(&mut self, part: u32, axis: usize, beyond: i32) -> i32 {
-        let pieces = pieces_of(self.plate.slots(), part);
-        let places = pieces.flat_map(|(_, piece)| [0, 3, 6].map(|corner| piece.corners[corner + axis]));
-        let places: Vec<i32> = places.collect();
+        let places = self.places_of(part, axis);
         let (low, high) = (places.iter().min(), places.iter().max());
         if self.random.once_in(2) {
             GRID.saturating_sub(*high.unwrap_or(&0)).saturating_add(beyond)

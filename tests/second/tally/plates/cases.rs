@@ -1,7 +1,7 @@
 //! What a call on the plate and a whole story can meet: each kind of call, what was undone, how crowded the plate was,
 //! and where the story ended.
 
-use crate::answers::plate::{leaves_grid, pieces_of, Change, PlateCall, Step, MOST_REACH, SHIFT_OFF_GRID, SLOTS};
+use crate::answers::plate::{leaves_grid, pieces_of, Change, Move, PlateCall, Step, MOST_REACH, SHIFT_OFF_GRID, SLOTS};
 use crate::answers::{GRID, TRIANGLE_NUMBERS};
 use crate::door::PLATE_ANSWER_NUMBERS;
 use crate::story::{Story, CALL_COORDINATES, CALL_NUMBERS};
@@ -92,7 +92,7 @@ fn change_cases(step: &Step, past: &Past) -> Met {
 
 fn shift_cases(step: &Step, past: &Past) -> Met {
     let PlateCall::Shift { part, by } = step.call else {
-        return shift_met([false; 7]);
+        return shift_met([false; 9]);
     };
     let (served, leaving) = (is_served(step), step.told.answer.number == SHIFT_OFF_GRID);
     let pieces = || pieces_of(&step.before, part);
@@ -110,11 +110,18 @@ fn shift_cases(step: &Step, past: &Past) -> Met {
         served && pieces().count() > 1,
         leaving && !first_leaves,
         leaving && !last_leaves,
-        leaving && by.iter().any(|n| [i32::MIN, i32::MAX].contains(n)),
+        leaving && is_longest(&by),
+        served && by.contains(&i32::MIN),
+        served && by.contains(&i32::MAX),
     ])
 }
 
-fn shift_met(met: [bool; 7]) -> Met {
+/// Along some axis the move is as long as 32 bits allow.
+fn is_longest(by: &Move) -> bool {
+    by.iter().any(|n| [i32::MIN, i32::MAX].contains(n))
+}
+
+fn shift_met(met: [bool; 9]) -> Met {
     let names = [
         "a zero move",
         "a shift to the end of the grid",
@@ -123,6 +130,8 @@ fn shift_met(met: [bool; 7]) -> Met {
         "a shift that only later triangles of the part refuse",
         "a shift that the last of the part allows and another refuses",
         "a shift by an end of the 32-bit numbers",
+        "a shift by the lowest 32-bit number that is served",
+        "a shift by the highest one that is served",
     ];
     names.into_iter().zip(met).collect()
 }
@@ -130,11 +139,13 @@ fn shift_met(met: [bool; 7]) -> Met {
 fn undo_cases(step: &Step, past: &Past) -> Met {
     let undone = step.undone.as_ref();
     let of_shift = matches!(undone, Some(Change::Shift { .. }));
+    let of_longest = matches!(undone, Some(Change::Shift { by, .. }) if is_longest(by));
     let refused = matches!(step.call, PlateCall::Undo) && !is_served(step);
     vec![
         ("undos of a place", matches!(undone, Some(Change::Place { .. }))),
         ("undos of a lift", matches!(undone, Some(Change::Lift { .. }))),
         ("undos of a shift", of_shift),
+        ("undos of a shift by an end of the 32-bit numbers", of_longest),
         (
             "undos of a shift that changed the count",
             of_shift && step.told.count != past.count,
