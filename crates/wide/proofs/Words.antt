@@ -1,16 +1,14 @@
 -- Sums and differences of pairs of words, over their values: a low word that has wrapped is told by a comparison, what it lost goes up into the high
 -- word, and no high word overflows where the sum or the difference is up to 2^126 in size. Assumes nothing.
-use Prim.Native.Nat.{ℕ, zero, suc, _+_, _*_, _-_, _%_, _^_, _<_, _≤_}
+use Prim.Native.Nat.{ℕ, _+_, _*_, _%_, _^_, _<_, _≤_}
 use native.Mathlib.Omega.{arith}
 use mathlib.Core.Path.{_≡_, refl, sym, ap, subst}
 use mathlib.Core.List.{[], _∷_}
-use mathlib.Core.Bool.{Bool, true, false, not, cond}
-use lib.Dec.{T, ltb, ltb→lt, nltb→le}
-use lib.IntN.{ℤ, pos, negsuc, negℤ, natAbs, _+ℤ_, _-ℤ_, _*ℤ_}
+use lib.IntN.{ℤ, pos, negsuc, natAbs, _+ℤ_, _-ℤ_, _*ℤ_}
 use mir.Syntax.{w64}
 use mir.Val.{SFits, toZ, ofZ}
 use mir.Facts.{toZ-ofZ}
-use Rattle.algebra.proofs.Bound.{abs-add, abs-sub}
+use Rattle.algebra.proofs.Bound.{abs-add, abs-sub, abs-mul}
 use Rattle.algebra.proofs.Machine.{Reads, held}
 use Rattle.algebra.proofs.Expression.{var, lit, _⊞_, _⊟_, _⊠_}
 use Rattle.algebra.proofs.Solver.{ring}
@@ -34,23 +32,11 @@ borrowed a b k l m r p e =
     ((var 0 ⊟ var 1 ⊟ var 6) ⊠ var 5 ⊞ var 4) ((var 0 ⊠ var 5 ⊞ var 2) ⊟ (var 1 ⊠ var 5 ⊞ var 3)) (num 1) (eqn 0 (lit (pos 1))) tt tt tt refl (ap pos e)
 
 -- ---- the high word of a number up to 2^126 in size
-below-mix : (x l : ℕ) (t : Bool) → (T t → l < suc x) → (T (not t) → suc x ≤ l) → suc x ≤ natAbs (cond t (negsuc (suc x - suc l)) (pos (l - suc x))) + l
-below-mix x l true h g = omega (arith, h tt)
-below-mix x l false h g = omega (arith, g tt)
-
-below : (x l : ℕ) → x ≤ natAbs (negℤ (pos x) +ℤ pos l) + l
-below zero l = omega arith
-below (suc x) l = below-mix x l (ltb l (suc x)) (ltb→lt l (suc x)) (nltb→le l (suc x))
-
 high-size : (h : ℤ) (l : ℕ) → l < 2 ^ 64 → Small (worth h l (2 ^ 64)) → natAbs h ≤ 2 ^ 62
-high-size (pos n) l hl b = go n l b
+high-size h l word small = omega (arith, abs-mul h (pos (2 ^ 64)), ap natAbs without-low, abs-sub (worth h l (2 ^ 64)) (pos l))
   where
-    go : (n l : ℕ) → n * 2 ^ 64 + l ≤ 2 ^ 126 → n ≤ 2 ^ 62
-    go n l h = omega arith
-high-size (negsuc n) l hl b = go n l (natAbs (negℤ (pos (suc n * 2 ^ 64)) +ℤ pos l)) hl b (below (suc n * 2 ^ 64) l)
-  where
-    go : (n l m : ℕ) → l < 2 ^ 64 → m ≤ 2 ^ 126 → suc n * 2 ^ 64 ≤ m + l → suc n ≤ 2 ^ 62
-    go n l m hl hm h = omega arith
+    without-low : h *ℤ pos (2 ^ 64) ≡ worth h l (2 ^ 64) -ℤ pos l
+    without-low = ring ((h *ℤ pos (2 ^ 64)) ∷ pos l ∷ []) (var 0) ((var 0 ⊞ var 1) ⊟ var 1) tt refl
 
 -- ---- the high words as the code holds them
 abbrev kept : ℤ → ℤ
@@ -60,16 +46,16 @@ kept z = toZ w64 (ofZ w64 z)
 pub record Sum (a b : Wide) (k r : ℕ) : Type 0 where
   pub plain : Reads (kept (a .hi) +ℤ kept (b .hi)) (a .hi +ℤ b .hi) (2 ^ 62 + 1)
   pub high : Reads (kept (kept (a .hi) +ℤ kept (b .hi)) +ℤ pos k) (a .hi +ℤ b .hi +ℤ pos k) (2 ^ 62)
-  pub worth : worth (a .hi +ℤ b .hi +ℤ pos k) r (2 ^ 64) ≡ value a +ℤ value b
+  pub value-is : worth (a .hi +ℤ b .hi +ℤ pos k) r (2 ^ 64) ≡ value a +ℤ value b
 
 pub record Difference (a b : Wide) (k r : ℕ) : Type 0 where
   pub plain : Reads (kept (a .hi) -ℤ kept (b .hi)) (a .hi -ℤ b .hi) (2 ^ 62 + 1)
   pub high : Reads (kept (kept (a .hi) -ℤ kept (b .hi)) -ℤ pos k) (a .hi -ℤ b .hi -ℤ pos k) (2 ^ 62)
-  pub worth : worth (a .hi -ℤ b .hi -ℤ pos k) r (2 ^ 64) ≡ value a -ℤ value b
+  pub value-is : worth (a .hi -ℤ b .hi -ℤ pos k) r (2 ^ 64) ≡ value a -ℤ value b
 
 module _ (a b : Wide) (fa : SFits w64 (a .hi)) (fb : SFits w64 (b .hi)) (k r : ℕ) (one : k ≤ 1) (word : r < 2 ^ 64) where
   sum-of : a .lo + b .lo ≡ r + k * 2 ^ 64 → Small (value a +ℤ value b) → Sum a b k r
-  sum-of e small = record { plain = before; high = record { is = (λ i. held w64 before tt .is i +ℤ pos k); within = record { abs = size } }; worth = is }
+  sum-of e small = record { plain = before; high = record { is = (λ i. held w64 before tt .is i +ℤ pos k); within = record { abs = size } }; value-is = is }
     where
       is : worth (a .hi +ℤ b .hi +ℤ pos k) r (2 ^ 64) ≡ value a +ℤ value b
       is = carried (a .hi) (b .hi) k (a .lo) (b .lo) r (2 ^ 64) e
@@ -87,7 +73,7 @@ module _ (a b : Wide) (fa : SFits w64 (a .hi)) (fb : SFits w64 (b .hi)) (k r : �
       }
 
   difference-of : r + b .lo ≡ a .lo + k * 2 ^ 64 → Small (value a -ℤ value b) → Difference a b k r
-  difference-of e small = record { plain = before; high = record { is = (λ i. held w64 before tt .is i -ℤ pos k); within = record { abs = size } }; worth = is }
+  difference-of e small = record { plain = before; high = record { is = (λ i. held w64 before tt .is i -ℤ pos k); within = record { abs = size } }; value-is = is }
     where
       is : worth (a .hi -ℤ b .hi -ℤ pos k) r (2 ^ 64) ≡ value a -ℤ value b
       is = borrowed (a .hi) (b .hi) k (a .lo) (b .lo) r (2 ^ 64) e

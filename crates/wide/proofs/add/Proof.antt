@@ -37,14 +37,14 @@ returns c =
     let s = c .before .before .before .before .before .before in
     let w = c .before .before .before .before .before .wrapping-add-u64 in
     let r = (sum-wrapped (s .args .a) (s .args .b) (search needs) (search needs) (omega arith) (omega arith) (w .result) (s .pre) (w .ensures) (omega (arith, c .before .before .before .before .if1 .taken))) in
-    ap (λ (h : ℤ). h *ℤ pos (2 ^ 64) +ℤ pos (w .result)) (held w64 (r .high) tt .is) ∙ r .worth
+    ap (λ (h : ℤ). h *ℤ pos (2 ^ 64) +ℤ pos (w .result)) (held w64 (r .high) tt .is) ∙ r .value-is
 
 returns-2 : tie.Need-returns-2
 returns-2 c =
     let s = c .before .before .before .before .before .before in
     let w = c .before .before .before .before .before .wrapping-add-u64 in
     let r = (sum-plain (s .args .a) (s .args .b) (search needs) (search needs) (omega arith) (omega arith) (w .result) (s .pre) (w .ensures) (omega (arith, c .before .before .before .before .if1 .left))) in
-    ap (λ (h : ℤ). h *ℤ pos (2 ^ 64) +ℤ pos (w .result)) (held w64 (r .plain) tt .is ∙ sym (+ℤ-idr (s .args .a .hi +ℤ s .args .b .hi))) ∙ r .worth
+    ap (λ (h : ℤ). h *ℤ pos (2 ^ 64) +ℤ pos (w .result)) (held w64 (r .plain) tt .is ∙ sym (+ℤ-idr (s .args .a .hi +ℤ s .args .b .hi))) ∙ r .value-is
 
 pub add-spec : {M : Type 1} → statement M
 add-spec = tie.close (tie.spec wrapping-add-u64-requires add-t7 add-t8 add-t9 returns returns-2)

@@ -37,14 +37,14 @@ returns c =
     let s = c .before .before .before .before .before .before in
     let w = c .before .before .before .before .before .wrapping-sub-u64 in
     let r = (difference-wrapped (s .args .a) (s .args .b) (search needs) (search needs) (omega arith) (omega arith) (w .result) (s .pre) (omega arith) (w .ensures) (omega (arith, c .before .before .before .before .if1 .taken))) in
-    ap (λ (h : ℤ). h *ℤ pos (2 ^ 64) +ℤ pos (w .result)) (held w64 (r .high) tt .is) ∙ r .worth
+    ap (λ (h : ℤ). h *ℤ pos (2 ^ 64) +ℤ pos (w .result)) (held w64 (r .high) tt .is) ∙ r .value-is
 
 returns-2 : tie.Need-returns-2
 returns-2 c =
     let s = c .before .before .before .before .before .before in
     let w = c .before .before .before .before .before .wrapping-sub-u64 in
     let r = (difference-plain (s .args .a) (s .args .b) (search needs) (search needs) (omega arith) (omega arith) (w .result) (s .pre) (omega arith) (w .ensures) (omega (arith, c .before .before .before .before .if1 .left))) in
-    ap (λ (h : ℤ). h *ℤ pos (2 ^ 64) +ℤ pos (w .result)) (held w64 (r .plain) tt .is ∙ sym (+ℤ-idr (s .args .a .hi -ℤ s .args .b .hi))) ∙ r .worth
+    ap (λ (h : ℤ). h *ℤ pos (2 ^ 64) +ℤ pos (w .result)) (held w64 (r .plain) tt .is ∙ sym (+ℤ-idr (s .args .a .hi -ℤ s .args .b .hi))) ∙ r .value-is
 
 pub sub-spec : {M : Type 1} → statement M
 sub-spec = tie.close (tie.spec wrapping-sub-u64-requires sub-t7 sub-t8 sub-t9 returns returns-2)
