@@ -5,7 +5,7 @@ use crate::door;
 use crate::inputs::lists::{self, Listed, Question};
 use crate::ordinary::{is_narrow, listing, Answer, TRIANGLE_NUMBERS};
 use crate::scaling::{compare_scaled, Input};
-use crate::timing::{best_of, last_line, nanoseconds_each, narrow_time, say, told_narrow, GOAL};
+use crate::timing::{best_of, last_line, nanoseconds_each, narrow_time, say, told_narrow};
 use std::hint::black_box;
 
 /// A listing is long, so fewer rounds do than for the pairs.
@@ -37,7 +37,7 @@ pub fn compare_and_time(goals: bool) -> Result<String, String> {
     let reached = inputs
         .iter()
         .zip(found)
-        .filter(|(input, found)| timed_ratio(input, found) <= GOAL)
+        .filter(|(input, found)| timed_ratio(input, found) <= input.content.goal)
         .count();
     last_line("listings", reached, inputs.len(), goals)
 }
@@ -164,10 +164,11 @@ fn timed_ratio(input: &Input<Listed>, found: &[Found]) -> f64 {
     let door = door_tight.max(door_ample);
     let ratio = door / wide;
     say(&format!(
-        "{}, {}, {} pairs found: door {door:.3} ns a pair, 128-bit {wide:.3} ns, ratio {ratio:.4}, goal {GOAL} (room for the pairs found {door_tight:.3} ns, for every pair {door_ample:.3} ns; {})",
+        "{}, {}, {} pairs found: door {door:.3} ns a pair, 128-bit {wide:.3} ns, ratio {ratio:.4}, goal {} (room for the pairs found {door_tight:.3} ns, for every pair {door_ample:.3} ns; {})",
         input.name,
         told_calls(&calls),
         tight.iter().sum::<usize>() / 2,
+        input.content.goal,
         told_narrow(narrow, wide, 3),
     ));
     ratio

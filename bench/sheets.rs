@@ -5,9 +5,11 @@ use crate::door;
 use crate::inputs::sheets;
 use crate::ordinary::sheet::{answer, TEXT_BYTES};
 use crate::scaling::{compare_scaled, Input};
-use crate::timing::{best_of, last_line, nanoseconds_each, say, GOAL};
+use crate::timing::{best_of, last_line, nanoseconds_each, say};
 use std::hint::black_box;
 
+/// The highest ratio to the ordinary reader that the door should have.
+const GOAL: f64 = 1.5;
 /// A sheet is answered in milliseconds, and other work on the machine may disturb for longer than a few of them.
 const ROUNDS: usize = 60;
 /// A longer sheet is not printed.

@@ -5,7 +5,7 @@ use crate::door;
 use crate::inputs::{self, Pair, PairsInput};
 use crate::ordinary::{self, is_narrow, Answer, SEGMENT_NUMBERS, TRIANGLE_NUMBERS};
 use crate::scaling::compare_scaled;
-use crate::timing::{best_of, nanoseconds_each, narrow_time, say, told_narrow, GOAL};
+use crate::timing::{best_of, nanoseconds_each, narrow_time, say, told_narrow, TWO_WORDS_GOAL};
 use std::hint::black_box;
 
 pub const ROUNDS: usize = 101;
@@ -18,12 +18,12 @@ pub const FAULTY_PAIRS_SEED: u64 = 4;
 pub fn pairs(at_most: f64, goals: bool) -> Result<String, String> {
     let call = Call {
         name: "pair",
-        goal: Some(GOAL),
+        goal: Some(TWO_WORDS_GOAL),
         door: door::pair,
         wide: ordinary::pair::<i128>,
         narrow: ordinary::pair::<i64>,
     };
-    let limit = if goals { at_most.min(GOAL) } else { at_most };
+    let limit = if goals { at_most.min(TWO_WORDS_GOAL) } else { at_most };
     call.compare_and_time::<TRIANGLE_NUMBERS>(PAIRS_SEEDS, FAULTY_PAIRS_SEED, limit)
 }
 

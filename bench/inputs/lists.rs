@@ -9,6 +9,18 @@ use crate::ordinary::listing::MOST_TRIANGLES;
 use crate::ordinary::{has_area, NARROW, TRIANGLE_NUMBERS};
 use crate::random::Random;
 use crate::scaling::{as_it_is, on_both_scales, scaled, Input};
+use crate::timing::TWO_WORDS_GOAL;
+
+/// Where few pairs have boxes with a point in common, so that the pair test has little to decide.
+const SPARSE_GOAL: f64 = 0.012;
+/// Where few pairs have, and what is near in space is not near in the list.
+const SHUFFLED_GOAL: f64 = 0.015;
+/// Where few pairs have, but for those of the largest triangles.
+const SIZES_GOAL: f64 = 0.05;
+/// Where most pairs have, in calls of 64 by 64.
+const SHORT_DENSE_GOAL: f64 = 0.6;
+/// As SPARSE_GOAL, where the calls are short, so that what is done once a list weighs more.
+const SHORT_SPARSE_GOAL: f64 = 0.25;
 
 /// Half of a size goes from 2 to the first power to 2 to the second, which is NARROW: from some ten steps of
 /// the grid to all within NARROW, five decades.
@@ -21,6 +33,8 @@ pub struct Listed {
     lists: Lists,
     /// So many triangles of each list make a piece.
     piece: [usize; 2],
+    /// The highest ratio to the ordinary listing that the door should have.
+    pub goal: f64,
 }
 
 impl Listed {
@@ -37,11 +51,12 @@ impl Listed {
 pub fn timed() -> Vec<Input<Listed>> {
     let mut inputs: Vec<Input<Listed>> = scaled_kinds()
         .into_iter()
-        .flat_map(|(name, lists)| in_pieces(name, &lists, [MOST_TRIANGLES; 2]))
+        .flat_map(|(name, lists, goal)| in_pieces(name, &lists, [MOST_TRIANGLES; 2], goal))
         .collect();
     let tiny = Listed {
         lists: with_area(7, tiny_triangle),
         piece: [MOST_TRIANGLES; 2],
+        goal: TWO_WORDS_GOAL,
     };
     inputs.extend(as_it_is("a tiny grid, many touching or in one plane", tiny));
     inputs.extend(in_short_calls());
@@ -49,46 +64,61 @@ pub fn timed() -> Vec<Input<Listed>> {
 }
 
 /// The kinds that are timed in one call, but for the tiny grid.
-fn scaled_kinds() -> [(&'static str, Lists); 10] {
+fn scaled_kinds() -> [(&'static str, Lists, f64); 10] {
     let spheres = [[0, 0, 0], [170_000, 110_000, 70_000]].map(|middle| sphere(middle, 250_000));
     let cubes = [[0, 0, -180_000], [35_000, 52_000, 180_000]].map(|middle| cube(middle, 20_000));
     let slivers = spheres.each_ref().map(|list| with_slivers(list));
     let [shuffled_spheres, shuffled_cubes] = [shuffled(20, &spheres), shuffled(21, &cubes)];
     [
-        ("random", random_lists()),
-        ("small triangles, spread", small_lists()),
-        ("two spheres that overlap", spheres),
-        ("a cube resting on another", cubes),
+        ("random", random_lists(), TWO_WORDS_GOAL),
+        ("small triangles, spread", small_lists(), SPARSE_GOAL),
+        ("two spheres that overlap", spheres, SPARSE_GOAL),
+        ("a cube resting on another", cubes, SPARSE_GOAL),
         (
             "slivers: the spheres, one triangle in ten a segment or a point",
             slivers,
+            SPARSE_GOAL,
         ),
-        ("the spheres in shuffled order", shuffled_spheres),
-        ("the cubes in shuffled order", shuffled_cubes),
-        ("all boxes overlapping, crossing", with_area(22, crossing_triangle)),
-        ("all boxes overlapping, in layers", layers(23)),
-        ("sizes over five decades", with_area(24, triangle_of_any_size)),
+        ("the spheres in shuffled order", shuffled_spheres, SHUFFLED_GOAL),
+        ("the cubes in shuffled order", shuffled_cubes, SHUFFLED_GOAL),
+        (
+            "all boxes overlapping, crossing",
+            with_area(22, crossing_triangle),
+            TWO_WORDS_GOAL,
+        ),
+        ("all boxes overlapping, in layers", layers(23), TWO_WORDS_GOAL),
+        (
+            "sizes over five decades",
+            with_area(24, triangle_of_any_size),
+            SIZES_GOAL,
+        ),
     ]
 }
 
 fn in_short_calls() -> Vec<Input<Listed>> {
     let random = random_lists();
-    let short_dense = |length| in_pieces("random, in short calls", &random, [length; 2]);
+    let short_dense = |length, goal| in_pieces("random, in short calls", &random, [length; 2], goal);
     let short_sparse = in_pieces(
         "small triangles, spread, in short calls",
         &small_lists(),
         [1, MOST_TRIANGLES],
+        SHORT_SPARSE_GOAL,
     );
-    [short_dense(16), short_dense(64), short_sparse]
-        .into_iter()
-        .flatten()
-        .collect()
+    [
+        short_dense(16, TWO_WORDS_GOAL),
+        short_dense(64, SHORT_DENSE_GOAL),
+        short_sparse,
+    ]
+    .into_iter()
+    .flatten()
+    .collect()
 }
 
-fn in_pieces(name: &str, lists: &Lists, piece: [usize; 2]) -> Vec<Input<Listed>> {
+fn in_pieces(name: &str, lists: &Lists, piece: [usize; 2], goal: f64) -> Vec<Input<Listed>> {
     on_both_scales(name, |scale| Listed {
         lists: lists.each_ref().map(|list| scaled(list, scale)),
         piece,
+        goal,
     })
 }
 
