@@ -1,0 +1,2 @@
+-- The estimate of a side in doubles, and what a double is worth.
+pub mod Doubles
