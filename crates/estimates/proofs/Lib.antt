@@ -7,3 +7,5 @@ pub mod Products
 pub mod Sums
 pub mod Errors
 pub mod Sides
+pub mod Comparing
+pub mod Told

@@ -3,9 +3,9 @@
 use mathlib.Core.Path.{_≡_, refl, sym, ap, ap₂, _∙_, subst}
 use mathlib.Core.Bool.{Bool, true, false, not, _&&_, cond}
 use Prim.Native.Nat.{ℕ, zero, suc, _+_, _-_, _*_, _≤_, _<_}
-use native.Mathlib.Nat.{mul-comm, mul-assoc, mul-one, mul-pos, add-mul, mul-sub, mul-le-mul-right, mul-lt-mul-of-pos-right}
+use native.Mathlib.Nat.{mul-comm, mul-one, mul-pos, add-mul, mul-sub}
 use native.Mathlib.Omega.{arith}
-use borrow.Author.Tests.{lt-ltb, le-ltb}
+use borrow.Author.Tests.{le-ltb}
 use lib.Dec.{T, ltb, ltb→lt, nltb→le}
 use lib.IntN.{ℤ, pos, negsuc, negℤ, _+ℤ_, _-ℤ_, negℤ-+ℤ, negℤ-negℤ, +ℤ-comm}
 use lib.Ieee.{Float, nan, inf, fin, Format, up, down, round, sum, add, sub, neg}
@@ -13,7 +13,7 @@ use lib.Ieee.Exact.{HasValue}
 use lib.Ieee.Fits.{down-pos}
 use lib.Ieee.Scale.{round-same}
 use Rattle.estimates.specs.Doubles.{signed, Whole}
-use Rattle.estimates.proofs.Wholes.{Rounds, neg-whole}
+use Rattle.estimates.proofs.Wholes.{Rounds, over-first, over-second, common-factor, neg-whole}
 
 -- ---- the smaller taken from the larger
 from-larger : (m n : ℕ) → n ≤ m → pos (m - n) ≡ pos m -ℤ pos n
@@ -56,13 +56,6 @@ module _ (f : Format) (c : ℕ) (positive : 0 < c) where
   taken-out : (m n : ℕ) → m * c - n * c ≡ (m - n) * c
   taken-out m n = ap₂ _-_ (mul-comm m c) (mul-comm n c) ∙ sym (mul-sub c m n) ∙ mul-comm c (m - n)
 
-  compared : (m n : ℕ) → ltb (m * c) (n * c) ≡ ltb m n
-  compared m n = by-test (ltb m n) (ltb→lt m n) (nltb→le m n)
-    where
-      by-test : (b : Bool) → (T b → m < n) → (T (not b) → n ≤ m) → ltb (m * c) (n * c) ≡ b
-      by-test true below above = lt-ltb (m * c) (n * c) (mul-lt-mul-of-pos-right (below tt) positive)
-      by-test false below above = le-ltb (m * c) (n * c) (mul-le-mul-right c (above tt))
-
   -- One sign.
   one-sign : (s : Bool) (m n : ℕ) → signed s (m + n) ≡ signed s m +ℤ signed s n → Rounds f (round f s (m * c + n * c) c) (signed s m +ℤ signed s n)
   one-sign s m n e = record { sign = s; size = m + n; rounds = cancelled s (m * c + n * c) (m + n) (sym (add-mul m n c)); is = e }
@@ -80,7 +73,7 @@ module _ (f : Format) (c : ℕ) (positive : 0 < c) where
     sign = s && ltb n m;
     size = m - n;
     rounds =
-        ap (λ (b : Bool). round f (s && b) (m * c - n * c) c) (compared n m)
+        ap (λ (b : Bool). round f (s && b) (m * c - n * c) c) (common-factor n m c positive)
         ∙ cancelled (s && ltb n m) (m * c - n * c) (m - n) (taken-out m n);
     is = larger-first s m n (above tt);
   }
@@ -90,8 +83,8 @@ module _ (f : Format) (c : ℕ) (positive : 0 < c) where
       (signed s m +ℤ signed (not s) n)
   two-signs s m n =
       by-larger s m n (ltb (m * c) (n * c))
-      (λ l. ltb→lt m n (subst T (compared m n) l))
-      (λ l. nltb→le m n (subst (λ (b : Bool). T (not b)) (compared m n) l))
+      (λ l. ltb→lt m n (subst T (common-factor m n c positive) l))
+      (λ l. nltb→le m n (subst (λ (b : Bool). T (not b)) (common-factor m n c positive) l))
 
   sum-rounds : (s t : Bool) (m n : ℕ) → Rounds f (sum f s (m * c) t (n * c) c) (signed s m +ℤ signed t n)
   unfolding sum
@@ -109,9 +102,8 @@ added f (fin s′ a d) nan s t m n v w = absurd w
 added f (fin s′ a d) (inf t′) s t m n v w = absurd w
 added f (fin s′ a d) (fin t′ b e) s t m n v w =
     let c = down d * down e in
-    let first : a * up d * down e ≡ m * c = ap (λ (k : ℕ). k * down e) (sym (mul-one (a * up d)) ∙ v .1) ∙ mul-assoc m (down d) (down e) in
-    let second : b * up e * down d ≡ n * c =
-          ap (λ (k : ℕ). k * down d) (sym (mul-one (b * up e)) ∙ w .1) ∙ mul-assoc n (down e) (down d) ∙ ap (λ (k : ℕ). n * k) (mul-comm (down e) (down d)) in
+    let first : a * up d * down e ≡ m * c = over-first m (a * up d) (down d) (down e) (v .1) in
+    let second : b * up e * down d ≡ n * c = over-second n (b * up e) (down e) (down d) (w .1) in
     let r = sum-rounds f c (mul-pos (down-pos d) (down-pos e)) s t m n in
     record {
       sign = r .sign;

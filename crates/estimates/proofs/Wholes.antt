@@ -4,7 +4,9 @@
 use mathlib.Core.Path.{_≡_, refl, sym, ap, _∙_, subst}
 use mathlib.Core.Bool.{Bool, true, false, not, cond}
 use Prim.Native.Nat.{ℕ, zero, suc, _+_, _-_, _*_, _^_, _≤_, _<_}
+use native.Mathlib.Nat.{mul-comm, mul-assoc, mul-one, mul-le-mul-right, mul-lt-mul-of-pos-right}
 use native.Mathlib.Omega.{arith}
+use borrow.Author.Tests.{lt-ltb, le-ltb}
 use lib.Dec.{T, ltb, ltb→lt, nltb→le}
 use lib.IntN.{ℤ, pos, negsuc, negℤ, natAbs, _-ℤ_, negℤ-+ℤ, negℤ-negℤ}
 use lib.Ieee.{Float, nan, inf, fin, Format, binary64, prec, emax, round, ofInt, neg}
@@ -73,6 +75,22 @@ rounds-estimates {f} {x} {z} j r most finite =
       off = subst (λ (y : ℤ). natAbs (signed (r .sign) (t .number) -ℤ y) * 2 ≤ 2 ^ j) (r .is) (signed-off (r .sign) (t .number) (r .size) (2 ^ j) (t .near));
       size = subst (λ (n : ℕ). n ≤ 2 ^ (prec f + j)) (sym (abs-signed (r .sign) (t .number))) (t .most);
     }
+
+-- ---- two values over one denominator
+-- A size k / d that is the whole number m, over the denominator d · e or e · d.
+pub over-first : (m k d e : ℕ) → k * 1 ≡ m * d → k * e ≡ m * (d * e)
+over-first m k d e h = ap (λ (x : ℕ). x * e) (sym (mul-one k) ∙ h) ∙ mul-assoc m d e
+
+pub over-second : (m k d e : ℕ) → k * 1 ≡ m * d → k * e ≡ m * (e * d)
+over-second m k d e h = over-first m k d e h ∙ ap (λ (x : ℕ). m * x) (mul-comm d e)
+
+-- Comparing needs no denominator.
+pub common-factor : (m n c : ℕ) → 0 < c → ltb (m * c) (n * c) ≡ ltb m n
+common-factor m n c positive = by-test (ltb m n) (ltb→lt m n) (nltb→le m n)
+  where
+    by-test : (b : Bool) → (T b → m < n) → (T (not b) → n ≤ m) → ltb (m * c) (n * c) ≡ b
+    by-test true below above = lt-ltb (m * c) (n * c) (mul-lt-mul-of-pos-right (below tt) positive)
+    by-test false below above = le-ltb (m * c) (n * c) (mul-le-mul-right c (above tt))
 
 -- ---- a whole number as a double, and an opposite
 pub double-whole : (z : ℤ) → natAbs z ≤ 2 ^ 53 → Whole (double z) z
