@@ -87,7 +87,7 @@ product-estimates {u} {v} {e} {n} j p q most finite =
     let r = rounds-estimates j (product-whole binary64 (p .whole) (q .whole)) (le-trans (le-of-eq (abs-mul g v)) (le-trans (mul-le-mul (p .size) (q .size)) most)) finite in
     let w = r .number in
     let taken-over : natAbs ((g -ℤ u) *ℤ v) * 2 ≤ e * n =
-          le-trans (le-of-eq (ap (λ (k : ℕ). k * 2) (abs-mul (g -ℤ u) v) ∙ mul-right-comm (natAbs (g -ℤ u)) (natAbs v) 2)) (mul-le-mul (p .off) (q .size)) in
+    le-trans (le-of-eq (ap (λ (k : ℕ). k * 2) (abs-mul (g -ℤ u) v) ∙ mul-right-comm (natAbs (g -ℤ u)) (natAbs v) 2)) (mul-le-mul (p .off) (q .size)) in
     record {
       number = w;
       whole = r .whole;

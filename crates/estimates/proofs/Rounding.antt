@@ -67,8 +67,8 @@ module _ (f : Format) (s : Bool) (n j : ℕ) (below : n < 2 ^ (prec f + j)) (fin
       let most : r .number ≤ 2 ^ (prec f + j) = le-of-mul-le-mul-right (subst (λ (x : ℕ). x ≤ 2 ^ (prec f + j) * 2 ^ unit) (r .stands) units-most) (pow-pos unit) in
       let small : r .number < 2 ^ suc (emax f) = lt-of-le-of-lt most (pow-lt (omega arith)) in
       let no-overflow : q * 2 ^ k < 2 ^ (unit + suc (emax f)) =
-            subst (λ (x : ℕ). x < 2 ^ (unit + suc (emax f))) (sym (r .stands))
-            (subst (λ (x : ℕ). r .number * 2 ^ unit < 2 ^ x) (add-comm (suc (emax f)) unit) (shl-lt (suc (emax f)) unit small)) in
+      subst (λ (x : ℕ). x < 2 ^ (unit + suc (emax f))) (sym (r .stands))
+      (subst (λ (x : ℕ). r .number * 2 ^ unit < 2 ^ x) (add-comm (suc (emax f)) unit) (shl-lt (suc (emax f)) unit small)) in
       record {
         number = r .number;
         has =

@@ -8,7 +8,7 @@ use native.Mathlib.Omega.{arith}
 use lib.Dec.{T, ltb→lt, lit≤}
 use lib.IntN.{ℤ, pos, negsuc, negℤ, natAbs, _-ℤ_}
 use lib.Signed.{_≤ℤ_, _<ℤ_, ltZ}
-use lib.Ieee.{Float}
+use lib.Ieee.{Float, binary64, ofBits, ofInt}
 use Rattle.algebra.proofs.Expression.{var, lit, neg, _⊟_}
 use Rattle.algebra.proofs.Certificate.{_≦_, _≺_, hyp, num, _⊕_, prove<}
 use Rattle.algebra.proofs.Bound.{at-most, at-least}
@@ -41,6 +41,11 @@ sign-below (negsuc n) h = refl
 -- ---- the limit as a double
 limit-whole : Whole (double (pos errorLimit)) (pos errorLimit)
 limit-whole = double-whole (pos errorLimit) (lit≤ tt)
+
+-- It is the one whose bits stand in the code.
+pub limit-bits : ofBits binary64 4804777852450897920 ≡ double (pos errorLimit)
+unfolding ofBits ofInt
+limit-bits = refl
 
 pub near-above : {e : Float} {z : ℤ} → Near e z errorLimit → farAbove e ≡ true → sign z ≡ pos 1
 near-above {e} {z} n far =

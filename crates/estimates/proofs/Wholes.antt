@@ -7,9 +7,9 @@ use Prim.Native.Nat.{ℕ, zero, suc, _+_, _-_, _*_, _^_, _≤_, _<_}
 use native.Mathlib.Nat.{mul-comm, mul-assoc, mul-one, mul-le-mul-right, mul-lt-mul-of-pos-right}
 use native.Mathlib.Omega.{arith}
 use borrow.Author.Tests.{lt-ltb, le-ltb}
-use lib.Dec.{T, ltb, ltb→lt, nltb→le}
+use lib.Dec.{T, ltb, ltb→lt, nltb→le, le→leb}
 use lib.IntN.{ℤ, pos, negsuc, negℤ, natAbs, _-ℤ_, negℤ-+ℤ, negℤ-negℤ}
-use lib.Ieee.{Float, nan, inf, fin, Format, binary64, prec, emax, round, ofInt, neg}
+use lib.Ieee.{Float, nan, inf, fin, Format, binary64, prec, emax, round, ofInt, inFloat, neg}
 use lib.Ieee.Exact.{HasValue}
 use lib.Ieee.Back.{round-whole}
 use Rattle.algebra.proofs.Bound.{abs-neg}
@@ -97,6 +97,12 @@ pub double-whole : (z : ℤ) → natAbs z ≤ 2 ^ 53 → Whole (double z) z
 unfolding ofInt
 double-whole (pos n) h = record { negative = false; size = n; has = round-whole binary64 false n h; is = refl }
 double-whole (negsuc n) h = record { negative = true; size = suc n; has = round-whole binary64 true (suc n) h; is = refl }
+
+-- So far a cast from a whole number to a double is defined.
+pub cast-defined : (z : ℤ) → natAbs z ≤ 2 ^ 53 → T (inFloat binary64 z)
+unfolding inFloat
+cast-defined (pos n) h = le→leb n (2 ^ 53) h
+cast-defined (negsuc n) h = le→leb (suc n) (2 ^ 53) h
 
 neg-has : (x : Float) (s : Bool) (n : ℕ) → HasValue x s n 1 → HasValue (neg x) (not s) n 1
 unfolding neg

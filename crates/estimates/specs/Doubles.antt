@@ -32,9 +32,9 @@ rough p = record { x = double (coord 0 p); y = double (coord 1 p); z = double (c
 abbrev pub difference : RoughPoint → RoughPoint → RoughPoint
 difference b a = record { x = sub binary64 (b .x) (a .x); y = sub binary64 (b .y) (a .y); z = sub binary64 (b .z) (a .z) }
 
--- A component of the normal: p q - r s, the rounded difference of two rounded products.
-abbrev pub component : (p q r s : Float) → Float
-component p q r s = sub binary64 (mul binary64 p q) (mul binary64 r s)
+-- A component of the normal: p q - s t, the rounded difference of two rounded products.
+abbrev pub component : (p q s t : Float) → Float
+component p q s t = sub binary64 (mul binary64 p q) (mul binary64 s t)
 
 -- v cross w.
 abbrev pub cross : RoughPoint → RoughPoint → Plane
