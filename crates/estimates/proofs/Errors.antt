@@ -11,7 +11,7 @@ use Rattle.algebra.proofs.Solver.{_≗_, solve}
 use Rattle.algebra.proofs.Order.{eq-of-sub}
 use Rattle.algebra.proofs.Bound.{abs-add, abs-sub, abs-mul}
 use Rattle.estimates.specs.Doubles.{Whole}
-use Rattle.estimates.proofs.Wholes.{Estimates, Rounds, rounds-estimates}
+use Rattle.estimates.proofs.Wholes.{Estimates, rounds-estimates}
 use Rattle.estimates.proofs.Products.{product-whole}
 use Rattle.estimates.proofs.Sums.{sum-whole, difference-whole}
 

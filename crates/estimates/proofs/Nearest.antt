@@ -1,7 +1,7 @@
 -- A natural number rounded to p binary digits is a whole number again, off by at most half of the last digit that is kept: half of 2^j, where the number is
 -- below 2^(p + j). Rounding, as the kit defines it, counts in the smallest values of the format, so that the number n stands as n * 2^unit. Nothing here is
 -- about doubles. Assumes nothing.
-use mathlib.Core.Path.{_≡_, refl, sym, ap, _∙_, subst}
+use mathlib.Core.Path.{_≡_, sym, ap, _∙_, subst}
 use mathlib.Core.Bool.{not}
 use Prim.Native.Nat.{ℕ, zero, suc, _+_, _-_, _*_, _/_, _%_, _^_, _≤_, _<_, compare, Ordering, Ordering·lt, Ordering·eq, Ordering·gt, compare·zero-suc}
 use native.Mathlib.Nat.{mul-assoc, mul-right-comm, add-mul, one-mul, suc-mul, le-of-mul-le-mul-right, div-add-mod', mod-lt, mul-div-cancel, mul-mod-left}

@@ -10,7 +10,7 @@ use lib.Ieee.{Float, binary64, sub}
 use Rattle.algebra.proofs.Expression.{_⊞_, _⊠_}
 use Rattle.algebra.proofs.Solver.{_≗_, solve}
 use Rattle.shape.specs.Points.{Point, coord}
-use Rattle.shape.specs.Signs.{row, minor, side}
+use Rattle.shape.specs.Signs.{row, side}
 use Rattle.shape.specs.Normals.{dot, normalOf}
 use Rattle.shape.proofs.Planes.{side-by-normal}
 use Rattle.shape.proofs.SignLaws.{carry-past}
