@@ -44,6 +44,7 @@ sum-estimates {u} {v} j p q most finite =
     }
 
 -- ---- a difference
+-- Its error, likewise.
 difference-error : (w g h u v : ℤ) → w -ℤ (u -ℤ v) ≡ (w -ℤ (g -ℤ h)) +ℤ ((g -ℤ u) -ℤ (h -ℤ v))
 difference-error = solve 5 (λ w g h u v. w ⊟ (u ⊟ v) ≗ (w ⊟ (g ⊟ h)) ⊞ ((g ⊟ u) ⊟ (h ⊟ v))) (tt, refl)
 
@@ -86,8 +87,8 @@ product-estimates {u} {v} {e} {n} j p q most finite =
     let g = p .number in
     let r = rounds-estimates j (product-whole binary64 (p .whole) (q .whole)) (le-trans (le-of-eq (abs-mul g v)) (le-trans (mul-le-mul (p .size) (q .size)) most)) finite in
     let w = r .number in
-    let taken-over : natAbs ((g -ℤ u) *ℤ v) * 2 ≤ e * n =
-    le-trans (le-of-eq (ap (λ (k : ℕ). k * 2) (abs-mul (g -ℤ u) v) ∙ mul-right-comm (natAbs (g -ℤ u)) (natAbs v) 2)) (mul-le-mul (p .off) (q .size)) in
+    let twice : natAbs ((g -ℤ u) *ℤ v) * 2 ≡ natAbs (g -ℤ u) * 2 * natAbs v = ap (λ (k : ℕ). k * 2) (abs-mul (g -ℤ u) v) ∙ mul-right-comm (natAbs (g -ℤ u)) (natAbs v) 2 in
+    let taken-over : natAbs ((g -ℤ u) *ℤ v) * 2 ≤ e * n = le-trans (le-of-eq twice) (mul-le-mul (p .off) (q .size)) in
     record {
       number = w;
       whole = r .whole;
@@ -98,4 +99,6 @@ product-estimates {u} {v} {e} {n} j p q most finite =
 -- Of two exact numbers.
 pub product-of-exact : {x y : Float} {u v : ℤ} {m n : ℕ} (j : ℕ) → Exactly x u m → Exactly y v n → m * n ≤ 2 ^ (53 + j) → 53 + j ≤ 1023 →
     Estimates (mul binary64 x y) (u *ℤ v) (2 ^ j) (2 ^ (53 + j))
-product-of-exact {m} {n} j p q most finite = let r = product-estimates j (exact-estimates p) q most finite in record { number = r .number; whole = r .whole; off = omega (arith, r .off); size = r .size }
+product-of-exact j p q most finite =
+    let r = product-estimates j (exact-estimates p) q most finite in
+    record { number = r .number; whole = r .whole; off = omega (arith, r .off); size = r .size }

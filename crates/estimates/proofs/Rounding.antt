@@ -61,19 +61,21 @@ module _ (f : Format) (s : Bool) (n j : ℕ) (below : n < 2 ^ (prec f + j)) (fin
   units-most : q * 2 ^ k ≤ 2 ^ (prec f + j) * 2 ^ unit
   units-most = subst (λ (x : ℕ). q * 2 ^ k ≤ x) powers (mul-le-mul kept-most (pow-mono (digits-over (prec f) unit n j below)))
 
+  no-overflow : (r : ℕ) → q * 2 ^ k ≡ r * 2 ^ unit → r ≤ 2 ^ (prec f + j) → q * 2 ^ k < 2 ^ (unit + suc (emax f))
+  no-overflow r stands most =
+      subst (λ (x : ℕ). x < 2 ^ (unit + suc (emax f))) (sym stands)
+      (subst (λ (x : ℕ). r * 2 ^ unit < 2 ^ x) (add-comm (suc (emax f)) unit) (shl-lt (suc (emax f)) unit (lt-of-le-of-lt most (pow-lt (omega arith)))))
+
   rounds-below : RoundsTo f s n j
   rounds-below =
       let r = rounded (prec f) unit n j below in
       let most : r .number ≤ 2 ^ (prec f + j) = le-of-mul-le-mul-right (subst (λ (x : ℕ). x ≤ 2 ^ (prec f + j) * 2 ^ unit) (r .stands) units-most) (pow-pos unit) in
-      let small : r .number < 2 ^ suc (emax f) = lt-of-le-of-lt most (pow-lt (omega arith)) in
-      let no-overflow : q * 2 ^ k < 2 ^ (unit + suc (emax f)) =
-      subst (λ (x : ℕ). x < 2 ^ (unit + suc (emax f))) (sym (r .stands))
-      (subst (λ (x : ℕ). r .number * 2 ^ unit < 2 ^ x) (add-comm (suc (emax f)) unit) (shl-lt (suc (emax f)) unit small)) in
+      let has = units-val f s q k (no-overflow (r .number) (r .stands) most) in
       record {
         number = r .number;
         has =
             subst (λ (x : Float). HasValue x s (r .number) 1) (sym round-by-units)
-            (same-value (units f s q k) s (q * 2 ^ k) (2 ^ unit) (r .number) 1 (pow-pos unit) (sym (r .stands) ∙ sym (mul-one (q * 2 ^ k))) (units-val f s q k no-overflow));
+            (same-value (units f s q k) s (q * 2 ^ k) (2 ^ unit) (r .number) 1 (pow-pos unit) (sym (r .stands) ∙ sym (mul-one (q * 2 ^ k))) has);
         near = r .near;
         most = most;
       }

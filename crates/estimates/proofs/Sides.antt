@@ -21,6 +21,7 @@ use Rattle.estimates.proofs.Wholes.{Estimates, double-whole}
 use Rattle.estimates.proofs.Errors.{Exactly, difference-exact, product-of-exact, difference-estimates, product-estimates, sum-estimates}
 
 -- ---- the exact side
+-- A normal times a row is the row times the normal.
 dot-turned : (u v w x y z : ℤ) → u *ℤ x +ℤ v *ℤ y +ℤ w *ℤ z ≡ x *ℤ u +ℤ y *ℤ v +ℤ z *ℤ w
 dot-turned = solve 6 (λ u v w x y z. u ⊠ x ⊞ v ⊠ y ⊞ w ⊠ z ≗ x ⊠ u ⊞ y ⊠ v ⊞ z ⊠ w) (tt, refl)
 
@@ -40,11 +41,12 @@ gap-exact a b on-a on-b i = difference-exact (coordinate a on-a) (coordinate b o
     coordinate p on = record { whole = double-whole (coord i p) (omega (arith, on i)); size = on i }
 
 -- A component.
-component-estimates : {p q r s : Float} {i j k l : ℤ} → Exactly p i (2 ^ 31) → Exactly q j (2 ^ 31) → Exactly r k (2 ^ 31) → Exactly s l (2 ^ 31) →
-    Estimates (component p q r s) (i *ℤ j -ℤ k *ℤ l) (2 ^ 11) (2 ^ 63)
-component-estimates p q r s = difference-estimates 10 (product-of-exact 9 p q (lit≤ tt) (lit≤ tt)) (product-of-exact 9 r s (lit≤ tt) (lit≤ tt)) (lit≤ tt) (lit≤ tt)
+component-estimates : {p q s t : Float} {i j k l : ℤ} → Exactly p i (2 ^ 31) → Exactly q j (2 ^ 31) → Exactly s k (2 ^ 31) → Exactly t l (2 ^ 31) →
+    Estimates (component p q s t) (i *ℤ j -ℤ k *ℤ l) (2 ^ 11) (2 ^ 63)
+component-estimates p q s t =
+    difference-estimates 10 (product-of-exact 9 p q (lit≤ tt) (lit≤ tt)) (product-of-exact 9 s t (lit≤ tt) (lit≤ tt)) (lit≤ tt) (lit≤ tt)
 
--- Three components times three differences.
+-- Three components times three differences, added left to right.
 product-near : {n : Plane} {u : RoughPoint} {i j k x y z : ℤ} →
     Estimates (n .x) i (2 ^ 11) (2 ^ 63) → Estimates (n .y) j (2 ^ 11) (2 ^ 63) → Estimates (n .z) k (2 ^ 11) (2 ^ 63) →
     Exactly (u .x) x (2 ^ 31) → Exactly (u .y) y (2 ^ 31) → Exactly (u .z) z (2 ^ 31) →
@@ -55,13 +57,17 @@ product-near nx ny nz ux uy uz =
     (product-estimates 41 nz uz (lit≤ tt) (lit≤ tt)) (lit≤ tt) (lit≤ tt)
 
 -- ---- the theorem
+-- The estimate of the side of d to the plane of a, b, c.
 pub estimate-near : (a b c d : Point) → OnGrid a → OnGrid b → OnGrid c → OnGrid d →
     Near (estimate (planeOf (rough a) (rough b) (rough c)) (rough a) (rough d)) (side a b c d) errorLimit
 estimate-near a b c d on-a on-b on-c on-d =
     let v = gap-exact b a on-b on-a in
     let w = gap-exact c a on-c on-a in
     let u = gap-exact a d on-a on-d in
-    let e = product-near {n = planeOf (rough a) (rough b) (rough c)} (component-estimates (v 1) (w 2) (v 2) (w 1)) (component-estimates (v 2) (w 0) (v 0) (w 2)) (component-estimates (v 0) (w 1) (v 1) (w 0)) (u 0) (u 1) (u 2) in
+    let x = component-estimates (v 1) (w 2) (v 2) (w 1) in
+    let y = component-estimates (v 2) (w 0) (v 0) (w 2) in
+    let z = component-estimates (v 0) (w 1) (v 1) (w 0) in
+    let e = product-near {n = planeOf (rough a) (rough b) (rough c)} x y z (u 0) (u 1) (u 2) in
     record {
       number = e .number;
       whole = e .whole;

@@ -42,11 +42,12 @@ sign-below (negsuc n) h = refl
 limit-whole : Whole (double (pos errorLimit)) (pos errorLimit)
 limit-whole = double-whole (pos errorLimit) (lit≤ tt)
 
--- It is the one whose bits stand in the code.
+-- It is the number in src/lib.rt, which a proof sees by its bits.
 pub limit-bits : ofBits binary64 4804777852450897920 ≡ double (pos errorLimit)
 unfolding ofBits ofInt
 limit-bits = refl
 
+-- ---- the sign of what is estimated
 pub near-above : {e : Float} {z : ℤ} → Near e z errorLimit → farAbove e ≡ true → sign z ≡ pos 1
 near-above {e} {z} n far =
     sign-above z

@@ -17,17 +17,18 @@ use Rattle.estimates.specs.Doubles.{double, signed, Whole}
 use Rattle.estimates.proofs.Nearest.{HalfApart}
 use Rattle.estimates.proofs.Rounding.{rounds-to}
 
--- ---- sizes of numbers with a sign
-pub abs-signed : (s : Bool) (n : ℕ) → natAbs (signed s n) ≡ n
+-- ---- numbers with a sign
+-- The size, and the opposite.
+abs-signed : (s : Bool) (n : ℕ) → natAbs (signed s n) ≡ n
 abs-signed false n = refl
 abs-signed true n = abs-neg (pos n)
 
-pub signed-not : (s : Bool) (n : ℕ) → signed (not s) n ≡ negℤ (signed s n)
+signed-not : (s : Bool) (n : ℕ) → signed (not s) n ≡ negℤ (signed s n)
 signed-not false n = refl
 signed-not true n = sym (negℤ-negℤ (pos n))
 
 -- An opposite is as far from an opposite.
-pub opposite-off : (x z : ℤ) → natAbs (negℤ x -ℤ negℤ z) ≡ natAbs (x -ℤ z)
+opposite-off : (x z : ℤ) → natAbs (negℤ x -ℤ negℤ z) ≡ natAbs (x -ℤ z)
 opposite-off x z = ap natAbs (sym (negℤ-+ℤ x (negℤ z))) ∙ abs-neg (x -ℤ z)
 
 -- Half apart as natural numbers, and so with a sign.
