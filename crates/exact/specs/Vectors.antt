@@ -1,10 +1,13 @@
--- The vocabulary of the leaves in src/determinant.rt: points and vectors as the code holds them, how large their coordinates
--- can be, the normal of a list's triangle, and what a sign tells.
+-- The vocabulary of the leaves in src/determinant.rt and src/levels.rt: points and vectors as the code holds them, how large their coordinates
+-- can be, the normal of a list's triangle, its plane in doubles, and what a sign tells.
+use mathlib.Core.Path.{_≡_}
 use mathlib.Core.List.{List, [], _∷_}
-use Prim.Native.Nat.{ℕ, _+_, _*_, _≤_}
+use Prim.Native.Nat.{ℕ, _+_, _*_, _^_, _≤_, _<_}
 use lib.IntN.{ℤ, pos, negsuc, natAbs}
 use Rattle.shape.specs.Points.{Point, coord, pointAt}
 use Rattle.shape.specs.Normals.{normalOf}
+use Rattle.estimates.specs.Doubles.{rough, planeOf}
+use Rattle.estimates.specs.declared.Plane.{Plane}
 use Rattle.exact.specs.Grid.{limit}
 use Rattle.exact.specs.declared.determinant.PlanePoint.{PlanePoint}
 use Rattle.exact.specs.declared.determinant.SpacePoint.{SpacePoint}
@@ -29,9 +32,31 @@ differenceSize = limit + limit
 abbrev pub minorSize : ℕ
 minorSize = differenceSize * differenceSize
 
+-- The largest size of a normal's components for which 64 bits hold its three products with differences of up to 2^31, and their sum: 3 * 1431655765 * 2^31
+-- is below 2^63. With one more they might not.
+abbrev pub narrowSize : ℕ
+narrowSize = 1431655765
+
+-- 64 bits hold the product of a row and a normal, and each sum on the way.
+pub record Holds (u n : Point) : Type 0 where
+  pub below : natAbs (coord 0 u) * natAbs (coord 0 n) + natAbs (coord 1 u) * natAbs (coord 1 n) + natAbs (coord 2 u) * natAbs (coord 2 n) < 2 ^ 63
+
+-- The plane in doubles of a triangle whose first corner is a, and its normal.
+pub record PlaneThrough (a normal : Point) (plane : Plane) : Type 0 where
+  pub b : Point
+  pub c : Point
+  pub sized-b : Sized limit b
+  pub sized-c : Sized limit c
+  pub is : plane ≡ planeOf (rough a) (rough b) (rough c)
+  pub normal-is : normal ≡ normalOf a b c
+
 -- The normal of the triangle that fills a list of nine numbers.
 abbrev pub normalIn : List ℤ → Point
 normalIn numbers = normalOf (pointAt 3 0 numbers) (pointAt 3 3 numbers) (pointAt 3 6 numbers)
+
+-- Its plane in doubles.
+abbrev pub planeIn : List ℤ → Plane
+planeIn numbers = planeOf (rough (pointAt 3 0 numbers)) (rough (pointAt 3 3 numbers)) (rough (pointAt 3 6 numbers))
 
 -- A sign is -1, 0 or 1.
 abbrev pub signNumber : Sign → ℤ

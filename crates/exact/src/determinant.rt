@@ -1,4 +1,4 @@
-// The determinants of document 000 at points of the grid: turns and normals in 64 bits, sides in two words of 64. Its functions are the
+// The determinants of document 000 at points of the grid, and their signs: turns and normals in 64 bits, sides in two words of 64. Its functions are the
 // leaves: what is off the grid was refused before one of them is called.
 use wide::Wide;
 ghost use mathlib.Core.Path.{_≡_};
@@ -6,9 +6,8 @@ ghost use Prim.Native.Nat.{_+_, _≤_, _<_};
 ghost use lib.IntN.{pos};
 ghost use lib.ListN.{length, getD};
 ghost use Rattle.shape.specs.Points.{pointAt, pointsAt};
-ghost use Rattle.shape.specs.Signs.{turn, side, row, bracket, sign, digit};
+ghost use Rattle.shape.specs.Signs.{turn, side, row, bracket, sign};
 ghost use Rattle.shape.specs.Normals.{minors, dot, normalOf};
-ghost use Rattle.shape.specs.SpaceTest.{level};
 ghost use Rattle.wide.specs.Value.{value};
 ghost use Rattle.exact.specs.Grid.{limit, Ready};
 ghost use Rattle.exact.specs.Vectors.{signNumber, planar, spatial, Sized, differenceSize, minorSize};
@@ -78,7 +77,7 @@ pub fn turn_of(points: &[i32]) -> i64
 }
 
 // a - d, a row of the determinant.
-fn row_of(a: SpacePoint, d: SpacePoint) -> SpacePoint
+pub fn row_of(a: SpacePoint, d: SpacePoint) -> SpacePoint
     requires { ⌜ Sized limit (spatial a) × Sized limit (spatial d) ⌝ }
     ensures { λ r. ⌜ (spatial r ≡ row (spatial a) (spatial d)) × Sized differenceSize (spatial r) ⌝ }
 {
@@ -122,7 +121,7 @@ pub fn normal_at(a: SpacePoint, b: SpacePoint, c: SpacePoint) -> SpacePoint
 }
 
 // The side of d against the plane through c that has this normal.
-fn side_over(c: SpacePoint, normal: SpacePoint, d: SpacePoint) -> Wide
+pub fn side_over(c: SpacePoint, normal: SpacePoint, d: SpacePoint) -> Wide
     requires { ⌜ Sized limit (spatial c) × Sized minorSize (spatial normal) × Sized limit (spatial d) ⌝ }
     ensures { λ r. ⌜ value r ≡ dot (row (spatial c) (spatial d)) (spatial normal) ⌝ }
 {
@@ -174,38 +173,4 @@ pub fn wide_sign_of(z: Wide) -> Sign
     ensures { λ r. ⌜ signNumber r ≡ sign (value z) ⌝ }
 {
     sign_of(wide::sign(z))
-}
-
-// The level that a number tells, by its sign: 0 for -1, 1 for 0, 2 for 1.
-pub fn level_of(z: i64) -> u32
-    ensures { λ r. ⌜ (r ≡ digit (sign z)) × (r ≤ 2) ⌝ }
-{
-    match sign_of(z) {
-        Sign::Negative => 0,
-        Sign::Zero => 1,
-        Sign::Positive => 2,
-    }
-}
-
-// The same of a side. The tests in space take every sign from here.
-fn wide_level_of(z: Wide) -> u32
-    ensures { λ r. ⌜ (r ≡ digit (sign (value z))) × (r ≤ 2) ⌝ }
-{
-    level_of(wide::sign(z))
-}
-
-// The level of d over the plane of a, b, c, by the sign of [a,b,c,d].
-pub fn level_at(a: SpacePoint, b: SpacePoint, c: SpacePoint, d: SpacePoint) -> u32
-    requires { ⌜ Sized limit (spatial a) × Sized limit (spatial b) × Sized limit (spatial c) × Sized limit (spatial d) ⌝ }
-    ensures { λ r. ⌜ (r ≡ level (spatial a) (spatial b) (spatial c) (spatial d)) × (r ≤ 2) ⌝ }
-{
-    wide_level_of(side_at(a, b, c, d))
-}
-
-// The level of d over the plane through c that has this normal.
-pub fn level_over(c: SpacePoint, normal: SpacePoint, d: SpacePoint) -> u32
-    requires { ⌜ Sized limit (spatial c) × Sized minorSize (spatial normal) × Sized limit (spatial d) ⌝ }
-    ensures { λ r. ⌜ (r ≡ digit (sign (dot (row (spatial c) (spatial d)) (spatial normal)))) × (r ≤ 2) ⌝ }
-{
-    wide_level_of(side_over(c, normal, d))
 }

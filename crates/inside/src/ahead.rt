@@ -1,8 +1,8 @@
 // Whether a triangle lies ahead, in the +x direction, of a point that is moved by a vanishing amount in y and a still smaller one in z: the decision of
 // crate shape's specs/InsideTest.antt, level by level (0 below zero, 1 zero, 2 above). No number here is larger than those of the tests.
 use exact::SpacePoint;
+use exact::level_at;
 use exact::level_of;
-use exact::level_over;
 use exact::normal_at;
 use exact::turn_at;
 use space::without_coordinate;
@@ -35,16 +35,16 @@ fn edge_level(a: SpacePoint, b: SpacePoint, p: SpacePoint) -> u32
     first_of(level_of(a.z - b.z), level_of(b.y - a.y))
 }
 
-// On which side of the plane of a, b, c the moved point lies; likewise.
+// On which side of the plane of a, b, c the moved point lies; likewise. The normal is found only where the point is on the plane.
 fn plane_level(a: SpacePoint, b: SpacePoint, c: SpacePoint, p: SpacePoint) -> u32
     requires { ⌜ Sized limit (spatial a) × Sized limit (spatial b) × Sized limit (spatial c) × Sized limit (spatial p) ⌝ }
     ensures { λ r. ⌜ r ≡ planeLevel (spatial a) (spatial b) (spatial c) (spatial p) ⌝ }
 {
-    let n = normal_at(a, b, c);
-    let side = level_over(c, n, p);
+    let side = level_at(a, b, c, p);
     if side != 1 {
         return side;
     }
+    let n = normal_at(a, b, c);
     first_of(level_of(0 - n.y), level_of(0 - n.z))
 }
 

@@ -1,25 +1,18 @@
 -- From the tests in space to the definition. Assumes nothing.
-use mathlib.Core.Path.{_≡_, refl, sym, _∙_, subst}
-use mathlib.Core.Bool.{Bool, false}
+use mathlib.Core.Path.{_≡_, sym, _∙_, subst}
+use mathlib.Core.Bool.{Bool}
 use mathlib.Core.List.{List}
-use Prim.Native.Nat.{ℕ}
 use lib.IntN.{ℤ}
 use Rattle.shape.specs.Points.{Point, pointAt}
-use Rattle.shape.specs.SpaceTest.{pattern}
 use Rattle.shape.specs.WireTest.{segmentTriangleTest, trianglesTest}
 use Rattle.shape.proofs.WireTest.{segment-triangle-test, triangles-test}
-use Rattle.space.specs.Spaces.{SpaceAt, ofSpace, ofLists, Stands}
+use Rattle.space.specs.Spaces.{SpaceAt, ofSpace, ofLists}
 use Rattle.space.specs.declared.meeting.SpaceTriangle.{SpaceTriangle}
-use Rattle.space.proofs.SpaceLaws.{if-beside}
 use Rattle.kernel.specs.Meeting.{Judges}
 
 -- Two triangles, decided by the test: it is right.
 pub judged : (first second : List ℤ) {r : Bool} → r ≡ ofLists trianglesTest first second → Judges 3 3 3 first second r
 judged first second e = subst (λ (v : Bool). Judges 3 3 3 first second v) (sym e) (triangles-test _ _ _ _ _ _)
-
--- Two triangles, the first beside the plane of the second: its standing has the number 0.
-pub judged-beside : (first second : List ℤ) {s : ℕ} → Stands (ofLists pattern first second) s → s ≡ 0 → Judges 3 3 3 first second false
-judged-beside first second found e = judged first second (if-beside found _ _ e refl)
 
 -- A segment and a triangle.
 pub segment-judged : (first second : List ℤ) {p q : Point} {t : SpaceTriangle} {r : Bool} → p ≡ pointAt 3 0 first → q ≡ pointAt 3 3 first →

@@ -1,2 +1,5 @@
--- What the proofs of several functions share: from the tests to the definition. Assumes nothing.
+-- What the proofs of several functions share, here and above:
+--   Judging       from the tests to the definition
+--   Stages        from standings and last signs to the definition
 pub mod Judging
+pub mod Stages

@@ -6,8 +6,11 @@ mod meeting;
 
 pub use kinds::Kind;
 pub use kinds::is_flat;
+pub use meeting::estimated_standing;
+pub use meeting::exact_standing;
 pub use meeting::flat_triangles_meet;
-pub use meeting::known_triangles_meet;
+pub use meeting::meet_by_standings;
 pub use meeting::put_normal;
+pub use meeting::put_plane;
 pub use meeting::segment_meets_triangle;
 pub use meeting::triangles_meet;

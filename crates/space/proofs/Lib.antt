@@ -1,2 +1,3 @@
 -- What the proofs of several functions share: triangles of space, as the tests take them. Assumes nothing.
 pub mod SpaceLaws
+pub mod Guesses

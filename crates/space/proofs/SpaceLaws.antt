@@ -15,47 +15,43 @@ use Rattle.shape.specs.Points.{Point, coord, pointAt}
 use Rattle.shape.specs.Signs.{row, sign, digit}
 use Rattle.shape.specs.Flat.{isFlat}
 use Rattle.shape.specs.Normals.{dot, normalOf, axisOf}
-use Rattle.shape.specs.SpaceTest.{level, Standing, beside, standings, standing, byStanding, placed, keptFirst, keptSecond, without, axis}
+use Rattle.shape.specs.SpaceTest.{level, Standing, beside, standings, standing, byStanding, placed, lastSigns, keptFirst, keptSecond, without, axis}
 use Rattle.shape.proofs.FlatLaws.{is-flat}
 use Rattle.shape.proofs.VerdictLaws.{says-fixed}
 use Rattle.shape.proofs.Planes.{side-by-normal}
 use Rattle.shape.proofs.Dropping.{axis-says}
-use Rattle.exact.specs.Grid.{limit, Ready}
-use Rattle.exact.specs.Vectors.{spatial, Sized, minorSize, normalIn}
+use Rattle.exact.specs.Grid.{limit, narrow, Ready, Narrow}
+use Rattle.exact.specs.Vectors.{spatial, Sized, minorSize, narrowSize, Holds, normalIn}
 use Rattle.plane.specs.Planes.{PlaneAt, SizedTriangle}
-use Rattle.space.specs.Spaces.{SpaceAt, SizedSpace, IsNormal, ofSpace, ofSpaces, ofList, turnsIn, swapIn, toldStanding, Numbered, Stands, firstPlace, secondPlace, thirdPlace, InOrder}
+use Rattle.space.specs.Spaces.{SpaceAt, SizedSpace, IsNormal, ofSpace, ofSpaces, ofList, turnsIn, swapIn, toldStanding, Numbered, Stands, firstPlace, secondPlace, thirdPlace, InOrder, lastSignsBy}
 use Rattle.plane.specs.declared.meeting.PlaneTriangle.{PlaneTriangle}
 use Rattle.exact.specs.declared.determinant.SpacePoint.{SpacePoint}
 use Rattle.space.specs.declared.meeting.SpaceTriangle.{SpaceTriangle}
-use Rattle.exact.proofs.GridLaws.{sized-point}
+use Rattle.exact.proofs.GridLaws.{sized-within, sized-point}
 use Rattle.plane.proofs.PlaneLaws.{size-at}
-use Rattle.exact.proofs.Readings.{sized-normal}
-
--- What is past the table of standings is beside.
-past : {A : Type 0} (l : List A) (d : A) (i : ℕ) → length l ≤ i → getD l i d ≡ d
-past [] d i h = refl
-past (a ∷ l) d zero h = absurd (omega arith)
-past (a ∷ l) d (suc i) h = past l d i (omega arith)
+use Rattle.exact.proofs.Readings.{sized-row, sized-normal}
+use Rattle.exact.proofs.Holding.{narrow-holds, small-holds}
 
 -- The number is none of those below n, as a `match` leaves it that has an arm for each.
 abbrev pub NoneBelow : (n p : ℕ) → Type 0
 NoneBelow zero p = Unit {0}
 NoneBelow (suc n) p = NoneBelow n p × (p ≡ n → ⊥)
 
-pub past-table : (p : ℕ) → NoneBelow 26 p → beside ≡ standing p
-past-table p none = by-order (ℕ-discrete p 26)
+-- So it is no pattern.
+pub past-patterns : {X : Type 0} (p : ℕ) → NoneBelow 27 p → p ≤ 26 → X
+past-patterns p none few = absurd (omega (arith, least 27 none))
   where
     least : (n : ℕ) → NoneBelow n p → n ≤ p
     least zero h = omega arith
     least (suc n) h = omega (arith, least n (h .0), h .1)
 
-    by-order : Dec (p ≡ 26) → beside ≡ standing p
-    by-order (yes e) = sym (ap standing e)
-    by-order (no n) = sym (past standings beside p (omega (arith, least 26 none, n)))
-
 -- The number that an arm gives for its pattern.
 pub stands : {p s k : ℕ} → p ≡ k → toldStanding s ≡ standing k → Numbered s → Stands p s
 stands e told number = record { told = told ∙ sym (ap standing e); number = number }
+
+-- The pattern that was found is that of two lists.
+pub stands-so : {p q s : ℕ} → p ≡ q → Stands p s → Stands q s
+stands-so {s = s} e found = subst (λ (p : ℕ). Stands p s) e found
 
 -- The verdict by the standing that code found, by its number.
 module _ {p s : ℕ} (found : Stands p s) (close : Bool) (crossing : ℕ → Bool → Bool) {answer : Bool} where
@@ -96,6 +92,11 @@ spaces-at at-t at-u f = λ i. f (at-t .at-p i) (at-t .at-q i) (at-t .at-r i) (at
 pub sized-triangle : {l : List ℤ} {t : SpaceTriangle} → Ready 9 l → SpaceAt (pointAt 3 0 l) (pointAt 3 3 l) (pointAt 3 6 l) t → SizedSpace limit t
 sized-triangle ready at = space-size-at at (sized-point ready 3 0 refl) (sized-point ready 3 3 refl) (sized-point ready 3 6 refl)
 
+-- The triangle of a narrow list.
+pub narrow-triangle : (l : List ℤ) {t : SpaceTriangle} → Narrow l → SpaceAt (pointAt 3 0 l) (pointAt 3 3 l) (pointAt 3 6 l) t → SizedSpace narrow t
+narrow-triangle l small at =
+    space-size-at at (sized-within narrow l small 3 0 refl) (sized-within narrow l small 3 3 refl) (sized-within narrow l small 3 6 refl)
+
 -- ---- normals
 -- The normal that is kept of a list is that of its triangle.
 pub normal-in : {l : List ℤ} {t : SpaceTriangle} {n : SpacePoint} → Ready 9 l → SpaceAt (pointAt 3 0 l) (pointAt 3 3 l) (pointAt 3 6 l) t →
@@ -106,11 +107,31 @@ normal-in {l} ready at e = record {
       (sized-normal (sized-point ready 3 0 refl) (sized-point ready 3 3 refl) (sized-point ready 3 6 refl));
 }
 
+-- 64 bits hold a product with a narrow normal, for points of the grid.
+pub grid-holds : {p q : Point} {n : Point} → Sized limit p → Sized limit q → Sized narrowSize n → Holds (row p q) n
+grid-holds sp sq small = narrow-holds (sized-row sp sq) small
+
+-- And each of a triangle's corners against another's plane, where all numbers are narrow.
+pub lists-hold : (k l : List ℤ) {t u : SpaceTriangle} {n : SpacePoint} → Narrow k → Narrow l →
+    SpaceAt (pointAt 3 0 k) (pointAt 3 3 k) (pointAt 3 6 k) t → SpaceAt (pointAt 3 0 l) (pointAt 3 3 l) (pointAt 3 6 l) u → spatial n ≡ normalIn l →
+    Holds (row (spatial (u .r)) (spatial (t .p))) (spatial n) × Holds (row (spatial (u .r)) (spatial (t .q))) (spatial n) × Holds (row (spatial (u .r)) (spatial (t .r))) (spatial n)
+lists-hold k l {t} {u} {n} nk nl at-t at-u e =
+    let st = narrow-triangle k nk at-t in
+    let su = narrow-triangle l nl at-u in
+    rw (e ∙ sym (space-at at-u normalOf)) (
+      small-holds (su .at-p) (su .at-q) (su .at-r) (su .at-r) (st .at-p),
+      small-holds (su .at-p) (su .at-q) (su .at-r) (su .at-r) (st .at-q),
+      small-holds (su .at-p) (su .at-q) (su .at-r) (su .at-r) (st .at-r),
+    )
+
+-- The level over the plane through c that has the normal of a, b, c.
+pub level-told : {n : Point} (a b c d : Point) → n ≡ normalOf a b c → digit (sign (dot (row c d) n)) ≡ level a b c d
+level-told a b c d e = ap (λ (z : ℤ). digit (sign z)) (ap (dot (row c d)) e ∙ side-by-normal a b c d)
+
 -- What the normal of a triangle tells: levels over its plane, the coordinate to drop, whether it is flat.
 module _ (t : SpaceTriangle) {n : SpacePoint} (normal : IsNormal t n) where
   pub level-by-normal : {r : ℕ} (d : Point) → r ≡ digit (sign (dot (row (spatial (t .r)) d) (spatial n))) → r ≡ ofSpace level t d
-  level-by-normal d e =
-      e ∙ ap (λ (z : ℤ). digit (sign z)) (ap (dot (row (spatial (t .r)) d)) (normal .is) ∙ side-by-normal (spatial (t .p)) (spatial (t .q)) (spatial (t .r)) d)
+  level-by-normal d e = e ∙ level-told (spatial (t .p)) (spatial (t .q)) (spatial (t .r)) d (normal .is)
 
   pub axis-by-normal : {r : ℕ} → r ≡ axisOf (spatial n) → r ≡ ofSpace axis t
   axis-by-normal e = e ∙ ap axisOf (normal .is)
@@ -150,8 +171,20 @@ module _ (s r : ℕ) (l : List ℤ) {t : SpaceTriangle} (at : InOrder s r l t) w
   sized-in-order ready =
       space-size-at at (sized-point ready 3 (firstPlace s) refl) (sized-point ready 3 (secondPlace s r) refl) (sized-point ready 3 (thirdPlace s r) refl)
 
+  pub narrow-in-order : Narrow l → SizedSpace narrow t
+  narrow-in-order small =
+      space-size-at at (sized-within narrow l small 3 (firstPlace s) refl) (sized-within narrow l small 3 (secondPlace s r) refl)
+      (sized-within narrow l small 3 (thirdPlace s r) refl)
+
   pub of-in-order : Numbered s → Numbered r → {X : Type 0} (f : Point → Point → Point → X) → ofSpace f t ≡ ofList (placed (turnsIn s) (swapIn r) f) l
   of-in-order hs hr f = space-at at f ∙ in-places s r hs hr (λ k. pointAt 3 k l) f
+
+-- The last signs of two triangles that were read so.
+pub last-in-order : (s r : ℕ) (k l : List ℤ) {t u : SpaceTriangle} → InOrder s r k t → InOrder r s l u → Numbered s → Numbered r →
+    ofSpaces lastSigns t u ≡ lastSignsBy s r k l
+last-in-order s r k l {t} {u} at-t at-u hs hr =
+    of-in-order s r k at-t hs hr (λ a b c. ofSpace (lastSigns a b c) u)
+    ∙ (λ i. ofList (placed (turnsIn s) (swapIn r) (λ a b c. of-in-order r s l at-u hr hs (lastSigns a b c) i)) k)
 
 -- The answer is that neither of two tests is passed.
 pub neither : {v w t u : Bool} → v ≡ t → w ≡ u → not v && not w ≡ cond t false (cond u false true)

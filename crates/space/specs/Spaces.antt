@@ -1,14 +1,19 @@
 -- The vocabulary of the leaves in src/meeting.rt: triangles of space as the code holds them, and the decisions of crate `shape`
 -- (specs/SpaceTest.antt) on their corners.
 use mathlib.Core.Path.{_≡_}
-use mathlib.Core.Bool.{Bool}
+use mathlib.Core.Bool.{Bool, true, _||_}
 use mathlib.Core.List.{List}
-use Prim.Native.Nat.{ℕ, zero, suc, _+_, _*_, _/_, _%_, _≤_}
-use lib.Dec.{ltb}
+use Prim.Native.Nat.{ℕ, zero, suc, _+_, _*_, _/_, _%_, _<_, _≤_}
+use lib.Dec.{eqb, ltb}
+use lib.Ieee.{Float}
 use lib.IntN.{ℤ}
+use mir.Val.{boolByte}
 use Rattle.shape.specs.Points.{Point, pointAt}
 use Rattle.shape.specs.Normals.{normalOf}
 use Rattle.shape.specs.SpaceTest.{Standing, beside, within, alone, standing, placed, lastSigns}
+use Rattle.estimates.specs.Doubles.{rough, planeOf, farAbove, farBelow}
+use Rattle.estimates.specs.declared.Plane.{Plane}
+use Rattle.exact.specs.Grid.{narrow}
 use Rattle.exact.specs.Vectors.{spatial, Sized, minorSize}
 use Rattle.exact.specs.declared.determinant.SpacePoint.{SpacePoint}
 use Rattle.space.specs.declared.meeting.SpaceTriangle.{SpaceTriangle}
@@ -43,6 +48,32 @@ pub record SizedSpace (n : ℕ) (t : SpaceTriangle) : Type 0 where
 pub record IsNormal (t : SpaceTriangle) (n : SpacePoint) : Type 0 where
   pub is : spatial n ≡ ofSpace normalOf t
   pub small : Sized minorSize (spatial n)
+
+-- The plane is that of t, in doubles.
+abbrev pub IsPlaneOf : SpaceTriangle → Plane → Type 0
+IsPlaneOf t plane = plane ≡ ofSpace (λ a b c. planeOf (rough a) (rough b) (rough c)) t
+
+-- All corners of two triangles are so near that 64 bits are enough, where the flag says so.
+abbrev pub BothSized : Bool → (t u : SpaceTriangle) → Type 0
+BothSized flag t u = flag ≡ true → SizedSpace narrow t × SizedSpace narrow u
+
+-- ---- what estimates tell
+-- An estimate is farther from zero than its error; and the level that it tells then, 2 above and 0 below.
+abbrev pub sure : Float → Bool
+sure e = farAbove e || farBelow e
+
+abbrev pub sureLevel : Float → ℕ
+sureLevel e = 2 * boolByte (farAbove e)
+
+-- A pattern that was guessed, and 1 where it is in doubt.
+pub record Guesses (pattern guessed doubt : ℕ) : Type 0 where
+  pub right : doubt ≡ 0 → guessed ≡ pattern
+  pub small : guessed ≤ 26
+  pub flag : doubt ≤ 1
+
+-- A verdict by a number, 1 for yes and 0 for no. From 2 on it tells nothing.
+abbrev pub Crosses : Bool → ℕ → Type 0
+Crosses verdict v = v < 2 → verdict ≡ eqb v 1
 
 -- ---- standings by their numbers
 -- The turns that a number tells, and whether the other triangle's last two corners have to be swapped.

@@ -2,13 +2,17 @@
 // and a triangle that is not flat. Crate `wires` puts them together, with the shapes that may be flat. The crate is the inside of the calls and offers
 // none itself: its functions have a `requires`, since what is off the grid is refused before one of them is asked.
 mod meeting;
+mod signs;
+mod standings;
 
 pub use meeting::SpaceTriangle;
-pub use meeting::crossing;
 pub use meeting::is_null;
 pub use meeting::meet_in_plane;
 pub use meeting::normal_of;
 pub use meeting::segment_meets_space;
 pub use meeting::space_triangle;
-pub use meeting::standing_over;
 pub use meeting::without_coordinate;
+pub use signs::crossing;
+pub use signs::estimated_crossing;
+pub use standings::estimated_standing;
+pub use standings::exact_standing;

@@ -4,5 +4,5 @@
 mod segments;
 mod triangles;
 
-pub use triangles::meet_by_standing;
+pub use triangles::close_meet;
 pub use triangles::segment_meets_any;

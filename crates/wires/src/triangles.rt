@@ -2,18 +2,16 @@
 use crate::segments::segments_meet;
 use exact::SpacePoint;
 use space::SpaceTriangle;
-use space::crossing;
 use space::is_null;
 use space::meet_in_plane;
+use space::normal_of;
 use space::segment_meets_space;
 use space::space_triangle;
-use space::standing_over;
 ghost use mathlib.Core.Path.{_≡_};
-ghost use Rattle.shape.specs.SpaceTest.{pattern};
-ghost use Rattle.shape.specs.WireTest.{segmentsTest, eitherEdge, segmentTriangleTest, closeTest, trianglesTest};
+ghost use Rattle.shape.specs.WireTest.{segmentsTest, eitherEdge, segmentTriangleTest, closeTest};
 ghost use Rattle.exact.specs.Grid.{limit, Ready};
-ghost use Rattle.exact.specs.Vectors.{spatial, Sized, normalIn};
-ghost use Rattle.space.specs.Spaces.{SizedSpace, IsNormal, ofSpace, ofSpaces, ofLists, Stands};
+ghost use Rattle.exact.specs.Vectors.{spatial, Sized};
+ghost use Rattle.space.specs.Spaces.{SizedSpace, IsNormal, ofSpace, ofSpaces, ofLists};
 ghost use Rattle.wires.specs.Wires.{edgeMeets};
 
 // Whether one of two edges of a triangle, which are the whole of it where it is flat, meets a segment.
@@ -63,31 +61,15 @@ fn close_triangles_meet(t: SpaceTriangle, m: SpacePoint, u: SpaceTriangle, n: Sp
     meet_in_plane(t, u, n)
 }
 
-// The same of two lists of nine numbers.
-fn close_meet(t: &[i32], m: SpacePoint, u: &[i32], n: SpacePoint) -> bool
-    requires { ⌜ Ready 9 (now t) × Ready 9 (now u) × (spatial m ≡ normalIn (now t)) × (spatial n ≡ normalIn (now u)) ⌝ }
-    ensures { λ r. ⌜ r ≡ ofLists closeTest (now (t .entry)) (now (u .entry)) ⌝ }
-{
-    close_triangles_meet(space_triangle(t), m, space_triangle(u), n)
-}
-
-// Whether two triangles, nine numbers each, have a point in common, where m and n are their normals and s is the standing of t to the plane of u, and
-// not beside it. Every point is on the plane of a flat one, whose normal is zero, so that nothing asks for flat ones before the standings do.
+// The same of two lists of nine numbers. Every point is on the plane of a flat one, whose normal is zero, so that nothing asks for flat ones before
+// the standings do.
 // The lists are lent on by `[..]`, here and in crate `kernel`: lent on as they came, where they lie would be copied first, and a
 // processor waits for a copy of what was stored a moment ago.
-pub fn meet_by_standing(t: &[i32], s: u32, m: SpacePoint, u: &[i32], n: SpacePoint) -> bool
-    requires { ⌜ Ready 9 (now t) × Ready 9 (now u) × (spatial m ≡ normalIn (now t)) × (spatial n ≡ normalIn (now u)) × Stands (ofLists pattern (now t) (now u)) s × (s ≡ 0 → ⊥) ⌝ }
-    ensures { λ v. ⌜ v ≡ ofLists trianglesTest (now (t .entry)) (now (u .entry)) ⌝ }
+pub fn close_meet(t: &[i32], u: &[i32]) -> bool
+    requires { ⌜ Ready 9 (now t) × Ready 9 (now u) ⌝ }
+    ensures { λ r. ⌜ r ≡ ofLists closeTest (now (t .entry)) (now (u .entry)) ⌝ }
 {
-    if s == 1 {
-        return close_meet(&t[..], m, &u[..], n);
-    }
-    let r = standing_over(&u[..], &t[..], m);
-    if r == 0 {
-        return false;
-    }
-    if r == 1 {
-        return close_meet(&u[..], n, &t[..], m);
-    }
-    crossing(&t[..], s, &u[..], r)
+    let a = space_triangle(t);
+    let b = space_triangle(u);
+    close_triangles_meet(a, normal_of(a), b, normal_of(b))
 }
