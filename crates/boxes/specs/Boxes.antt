@@ -4,11 +4,13 @@ use mathlib.Core.Path.{_≡_}
 use mathlib.Core.Bool.{Bool, true, cond}
 use mathlib.Core.List.{List, [], _∷_}
 use Prim.Native.Nat.{ℕ, _+_, _*_, _≤_, _<_}
+use lib.Ieee.{Float}
 use lib.IntN.{ℤ, pos}
 use lib.ListN.{length, getD, take, drop}
 use lib.Signed.{ltZ}
 use Rattle.exact.specs.Grid.{Ready}
 use Rattle.exact.specs.Vectors.{normalIn}
+use Rattle.kernel.specs.Standings.{IsPlane}
 use Rattle.boxes.specs.Triangles.{triangles, nine}
 
 abbrev pub smaller : ℤ → ℤ → Bool
@@ -56,20 +58,27 @@ pub record Sound (numbers : List ℤ) : Type 0 where
 
 -- ---- the normals of triangles
 -- The normal with index i.
-abbrev pub three : ℕ → List ℤ → List ℤ
+abbrev pub three : {A : Type 0} → ℕ → List A → List A
 three i normals = take 3 (drop (3 * i) normals)
 
 -- The normals of all triangles of a list.
 abbrev pub Normals : List ℤ → List ℤ → Type 0
 Normals numbers normals = (i : ℕ) → i < triangles numbers → three i normals ≡ normalIn (nine i numbers)
 
--- A triangle on the grid, and its normal.
-pub record Known (corners plane : List ℤ) : Type 0 where
-  pub ready : Ready 9 corners
-  pub normal : plane ≡ normalIn corners
+-- The planes in doubles of all triangles of a list, three numbers each.
+abbrev pub Planes : List ℤ → List Float → Type 0
+Planes numbers planes = (i : ℕ) → i < triangles numbers → IsPlane (nine i numbers) (three i planes)
 
--- A sound list, and the normals of its triangles.
-pub record Prepared (numbers normals : List ℤ) : Type 0 where
+-- A triangle on the grid, its normal, and its plane in doubles.
+pub record Known (corners normal : List ℤ) (plane : List Float) : Type 0 where
+  pub ready : Ready 9 corners
+  pub is-normal : normal ≡ normalIn corners
+  pub is-plane : IsPlane corners plane
+
+-- A sound list, the normals of its triangles, and their planes in doubles.
+pub record Prepared (numbers normals : List ℤ) (planes : List Float) : Type 0 where
   pub sound : Sound numbers
-  pub room : 3 * triangles numbers ≤ length normals
+  pub normal-room : 3 * triangles numbers ≤ length normals
   pub normal : Normals numbers normals
+  pub plane-room : 3 * triangles numbers ≤ length planes
+  pub plane : Planes numbers planes

@@ -1,11 +1,12 @@
 // What is found out once of each triangle of a list, and not once of each pair. Its box, which tells of most pairs of a large bed that they are
 // apart: six numbers, the least x, y and z of the corners and then the greatest. And its normal, three numbers, which the pair test asks for.
 use kernel::put_normal;
+use kernel::put_plane;
 ghost use mathlib.Core.Path.{_≡_};
 ghost use Prim.Native.Nat.{_+_, _*_, _≤_, _<_};
 ghost use lib.ListN.{length};
 ghost use Rattle.boxes.specs.Triangles.{triangles};
-ghost use Rattle.boxes.specs.Boxes.{smaller, larger, better, bestAt, boxOf, apartAlong, boxesApart, Boxed, Sound, Normals};
+ghost use Rattle.boxes.specs.Boxes.{smaller, larger, better, bestAt, boxOf, apartAlong, boxesApart, Boxed, Sound, Normals, Planes};
 
 // The smaller of two numbers.
 fn smaller_of(x: i32, y: i32) -> i32
@@ -82,6 +83,21 @@ pub fn put_normals(normals: &mut [i64], numbers: &[i32])
         let normal_at = 3 * i;
         let at = 9 * i;
         put_normal(&mut normals[normal_at..normal_at + 3], &numbers[at..at + 9]);
+        i += 1;
+    }
+}
+
+// Writes the planes of all triangles of a list, in doubles.
+pub fn put_planes(planes: &mut [f64], numbers: &[i32])
+    requires { ⌜ Sound (now numbers) × (3 * triangles (now numbers) ≤ length (now planes)) ⌝ }
+    ensures { λ r. ⌜ Planes (now (numbers .entry)) (now (planes .exit)) ⌝ }
+{
+    let count = numbers.len() / 9;
+    let mut i: usize = 0;
+    while i < count {
+        let plane_at = 3 * i;
+        let at = 9 * i;
+        put_plane(&mut planes[plane_at..plane_at + 3], &numbers[at..at + 9]);
         i += 1;
     }
 }

@@ -1,7 +1,10 @@
 // What is found out once of each triangle of a list, its box and its normal, and boxes that are apart. Like crate `kernel`, this is the inside
 // of the calls: it offers none itself, and its functions have a `requires`.
 mod boxes;
+mod narrow;
 
 pub use boxes::boxes_apart;
 pub use boxes::put_boxes;
 pub use boxes::put_normals;
+pub use boxes::put_planes;
+pub use narrow::is_narrow;

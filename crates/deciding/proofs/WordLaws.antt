@@ -1,129 +1,213 @@
--- Words of verdicts (specs/Words.antt): a word that is decided candidate by candidate, and words that are stored one after the other. Assumes
--- nothing.
+-- Words of verdicts (specs/Words.antt): a word that is decided in stages, and words that are stored one after the other. Assumes nothing.
 use mathlib.Core.Path.{_≡_, refl, sym, ap, ap₂, _∙_}
 use mathlib.Core.Bool.{Bool, true, false}
 use mathlib.Core.List.{List}
-use Prim.Native.Nat.{ℕ, zero, suc, _+_, _-_, _*_, _/_, _^_, _<_, _≤_}
+use mathlib.Core.Logic.{_⊎_, inl, inr}
+use Prim.Native.Nat.{ℕ, zero, suc, _+_, _*_, _/_, _^_, _<_, _≤_}
 use native.Mathlib.Omega.{arith}
-use native.Mathlib.Decide.{ℕ-discrete}
-use native.Mathlib.Nat.{pow-le-pow-right}
+use lib.Ieee.{Float}
 use lib.IntN.{ℤ}
 use lib.ListN.{length, getD, set}
 use lib.Pow.{pow-pos}
-use lib.Seq.{getD-set-same, getD-set-other}
-use mir.Val.{boolByte}
+use lib.Seq.{take-all, getD-set-same, getD-set-other}
 use Rattle.algebra.proofs.Copying.{written-hold}
 use Rattle.shape.specs.Points.{pointsAt}
 use Rattle.shape.specs.Sharing.{Share}
+use Rattle.shape.proofs.Trading.{share-trade}
 use Rattle.shape.proofs.VerdictLaws.{says-no}
 use Rattle.kernel.specs.Meeting.{Judges}
-use Rattle.words.specs.Bits.{bit, ones, Lowest}
+use Rattle.exact.specs.Vectors.{normalIn}
+use Rattle.kernel.specs.Standings.{planeRow, Stood}
+use Rattle.words.specs.Bits.{bit, ones}
 use Rattle.words.specs.Spans.{firstOf, span}
-use Rattle.words.proofs.BitLaws.{bit-of-none, ones-of-none, bit-added, bit-added-other, ones-added, added-small, few-ones}
-use Rattle.words.proofs.LowestLaws.{lowest-is-set, lowest-is-gone, others-stay, lowest-added, rest-less, lowest-within}
-use Rattle.boxes.specs.Boxes.{Boxed}
+use Rattle.words.proofs.BitLaws.{bit-of-none, set-within, few-ones}
+use Rattle.words.proofs.Filling.{both}
+use Rattle.boxes.specs.Boxes.{three, Boxed, Known, Prepared}
 use Rattle.boxes.specs.Triangles.{triangles, nine}
 use Rattle.sifting.specs.Tables.{CandidatesBelow}
 use Rattle.sifting.proofs.EndLaws.{boxes-reach}
+use Rattle.deciding.specs.Stages.{indexOf, lined, Clear, Among, Lined, Normalled, Planed, Parted, SortedAt, AllAlone, AllStood, Judged}
 use Rattle.deciding.specs.Words.{MayMeet, MayMeetBelow, Verdicts, onesBelow, VerdictsBelow, Decided}
+use Rattle.deciding.proofs.Rounds.{exclusive}
 
--- ---- a word with one verdict more, where it had none
--- Its place in the word was 0, and becomes 1 where the verdict is yes.
-abbrev put : ℕ → ℕ → Bool → ℕ
-put z word v = word + boolByte v * 2 ^ z
+-- ---- a word that is decided in stages
+-- The triangle itself, for every place.
+pub lined-alone : (corners : List ℤ) → length corners ≡ 9 → (z : ℕ) → lined corners 0 0 z ≡ corners
+lined-alone corners long z =
+    ap (λ (i : ℕ). nine i corners) {x = 0 + 0 * z} {y = 0} (omega arith) ∙ take-all 9 corners (omega arith)
 
-module _ (z word : ℕ) (none : bit z word ≡ false) where
-  put-same : (word + 0 * 2 ^ z ≡ word) × (word + 1 * 2 ^ z ≡ word + 2 ^ z)
-  put-same = (omega arith, omega arith)
+-- The triangle of the second list.
+pub lined-second : (second : List ℤ) (from z : ℕ) → lined second from 1 z ≡ nine (from + z) second
+lined-second second from z = ap (λ (i : ℕ). nine i second) {x = from + 1 * z} {y = from + z} (omega arith)
 
-  put-here : (v : Bool) → bit z (put z word v) ≡ v
-  put-here true = rw (put-same .1) (bit-added z word none)
-  put-here false = rw (put-same .0) none
+-- The triangle serves every place.
+module _ {corners normal : List ℤ} {plane : List Float} (known : Known corners normal plane) (asked : ℕ) where
+  same : (z : ℕ) → lined corners 0 0 z ≡ corners
+  same = lined-alone corners (known .ready .long)
 
-  put-other : (v : Bool) (t : ℕ) → (t ≡ z → ⊥) → bit t (put z word v) ≡ bit t word
-  put-other true t other = rw (put-same .1) (bit-added-other t z word other none)
-  put-other false t other = rw (put-same .0)
+  three-alone : {A : Type 0} (row : List A) → length row ≡ 3 → (z : ℕ) → three (indexOf 0 0 z) row ≡ row
+  three-alone row long z = ap (λ (i : ℕ). three i row) {x = 0 + 0 * z} {y = 0} (omega arith) ∙ take-all 3 row (omega arith)
 
-  put-ones : (v : Bool) (n : ℕ) → z < n → ones n (put z word v) ≡ ones n word + boolByte v
-  put-ones true n h = rw (put-same .1) (ones-added n z word h none)
-  put-ones false n h = rw (put-same .0) (omega arith)
+  pub corners-lined : Lined corners 0 0 asked
+  corners-lined = record {
+    few = omega arith;
+    single = omega arith;
+    there = λ z set. omega (arith, known .ready .long);
+    ready = λ z set. rw (same z) (known .ready);
+  }
 
-  put-small : (v : Bool) (n : ℕ) → z < n → word < 2 ^ n → put z word v < 2 ^ n
-  put-small true n h small = rw (put-same .1) (added-small n z word small h none)
-  put-small false n h small = rw (put-same .0) small
+  pub corners-normalled : Normalled corners normal 0 0 asked
+  corners-normalled =
+      let long : length normal ≡ 3 = ap length (known .is-normal) in
+      record {
+        room = λ z set. omega (arith, long);
+        normal = λ z set. three-alone normal long z ∙ known .is-normal ∙ ap normalIn (sym (same z));
+      }
 
--- ---- a word that is decided, candidate by candidate
--- The candidates in `left` have no verdict yet; every other triangle has its own.
-pub record Deciding (corners second : List ℤ) (from n left bits found : ℕ) : Type 0 where
-  pub few : left < 2 ^ n
-  pub small : bits < 2 ^ n
-  pub open-yet : (t : ℕ) → bit t left ≡ true → bit t bits ≡ false
-  pub right : (t : ℕ) → t < n → bit t left ≡ false → Judges 3 3 3 corners (nine (from + t) second) (bit t bits)
-  pub count : found ≡ ones n bits
+  pub corners-planed : Planed corners plane 0 0 asked
+  corners-planed =
+      let long : length plane ≡ 3 = ap length (known .is-plane) in
+      record {
+        room = λ z set. omega (arith, long);
+        plane = λ z set. three-alone plane long z ∙ known .is-plane ∙ ap planeRow (sym (same z));
+      }
 
--- At first none has one, and the others are apart from the triangle.
-pub deciding-starts : {corners second : List ℤ} {from n candidates : ℕ} → MayMeet corners second from n candidates →
-    Deciding corners second from n candidates 0 0
-deciding-starts {corners} {second} {from} {n} {candidates} may = record {
-  few = may .small;
-  small = pow-pos n;
-  open-yet = λ t set. bit-of-none t;
-  right = apart;
-  count = sym (ones-of-none n);
-}
-  where
-    apart : (t : ℕ) → t < n → bit t candidates ≡ false → Judges 3 3 3 corners (nine (from + t) second) (bit t 0)
-    apart t h clear =
-        rw (bit-of-none t)
-        (says-no
-        (λ shared. let set = may .set t h shared in
-        let same : _≡_ {A = ℕ} 0 1 = cc in
-        omega arith))
+-- The second list has a triangle for each candidate.
+module _ {second normals : List ℤ} {planes : List Float} (prepared : Prepared second normals planes) {from candidates : ℕ} (few : from ≤ 1024)
+    (small : candidates < 2 ^ span (triangles second) from) where
+  inside : (z : ℕ) → bit z candidates ≡ true → indexOf from 1 z < triangles second
+  inside z set = omega (arith, set-within z (span (triangles second) from) candidates small set)
 
--- The lowest candidate gets its verdict. The code has its power of two as a difference.
-pub deciding-on : {corners second : List ℤ} {from n left next bits found z : ℕ} {v : Bool} → Deciding corners second from n left bits found →
-    Lowest z left next → Judges 3 3 3 corners (nine (from + z) second) v →
-    Deciding corners second from n next (bits + boolByte v * (left - next)) (found + boolByte v)
-deciding-on {corners} {second} {from} {n} {left} {next} {bits} {found} {z} {v} so-far low verdict = rw power (record {
-  few = omega (arith, rest-less low, so-far .few);
-  small = put-small z bits none v n inside (so-far .small);
-  open-yet = open-yet;
-  right = right;
-  count = ap (λ (k : ℕ). k + boolByte v) (so-far .count) ∙ sym (put-ones z bits none v n inside);
-})
-  where
-    power : left - next ≡ 2 ^ z
-    power = omega (arith, lowest-added low)
+  pub second-lined : Lined second from 1 candidates
+  second-lined = record { few = few; single = omega arith; there = inside; ready = λ z set. prepared .sound .ready (indexOf from 1 z) (inside z set) }
 
-    inside : z < n
-    inside = lowest-within low n (so-far .few)
+  pub second-normalled : Normalled second normals from 1 candidates
+  second-normalled = record {
+    room = λ z set. omega (arith, inside z set, prepared .normal-room);
+    normal = λ z set. prepared .normal (indexOf from 1 z) (inside z set);
+  }
 
-    none : bit z bits ≡ false
-    none = so-far .open-yet z (lowest-is-set low)
+  pub second-planed : Planed second planes from 1 candidates
+  second-planed = record {
+    room = λ z set. omega (arith, inside z set, prepared .plane-room);
+    plane = λ z set. prepared .plane (indexOf from 1 z) (inside z set);
+  }
 
-    open-yet : (t : ℕ) → bit t next ≡ true → bit t (put z bits v) ≡ false
-    open-yet t set =
-        let other : (t ≡ z → ⊥) = λ e. let gone : bit t next ≡ false = rw e (lowest-is-gone low) in let same : _≡_ {A = ℕ} 0 1 = cc in omega arith in
-        put-other z bits none v t other ∙ so-far .open-yet t (sym (others-stay low t other) ∙ set)
-
-    right : (t : ℕ) → t < n → bit t next ≡ false → Judges 3 3 3 corners (nine (from + t) second) (bit t (put z bits v))
-    right t h clear = by-place (ℕ-discrete t z)
+module _ {corners second : List ℤ} {from n candidates : ℕ} (long : length corners ≡ 9) (may : MayMeet corners second from n candidates) where
+  module _ {standings : List ℕ} {kept other : ℕ} (first : Parted (SortedAt second corners from 1 0 0 standings) candidates 0 kept other) where
+    -- What is left of the candidates were candidates.
+    pub kept-candidates : Among kept candidates
+    kept-candidates z set = by-bit (bit z candidates) refl
       where
-        by-place : Dec (t ≡ z) → Judges 3 3 3 corners (nine (from + t) second) (bit t (put z bits v))
-        by-place (yes e) = rw (e, put-here z bits none v) verdict
-        by-place (no other) = rw (put-other z bits none v t other) (so-far .right t h (sym (others-stay low t other) ∙ clear))
+        by-bit : (b : Bool) → bit z candidates ≡ b → bit z candidates ≡ true
+        by-bit true e = e
+        by-bit false e = both set (first .kept-none z e)
 
--- Word and count fit the code's 64 bits.
-pub deciding-fits : {corners second : List ℤ} {from n left bits found : ℕ} → n ≤ 64 → Deciding corners second from n left bits found →
-    (bits < 2 ^ 64) × (found ≤ 64)
-deciding-fits {n} {bits} few so-far =
-    let most : 2 ^ n ≤ 2 ^ 64 = pow-le-pow-right {n = 2} (omega arith) {i = n} {j = 64} few in
-    (omega (arith, most, so-far .small), omega (arith, so-far .count, few-ones n bits))
+    other-candidates : Among other candidates
+    other-candidates z set = by-bit (bit z candidates) refl
+      where
+        by-bit : (b : Bool) → bit z candidates ≡ b → bit z candidates ≡ true
+        by-bit true e = e
+        by-bit false e = both set (first .other-stays z e ∙ bit-of-none z)
 
--- No candidate is left.
-pub deciding-ends : {corners second : List ℤ} {from n bits found : ℕ} → Deciding corners second from n 0 bits found →
-    Verdicts corners second from n bits × (found ≡ ones n bits)
-deciding-ends so-far = (record { small = so-far .small; right = λ t h. so-far .right t h (bit-of-none t) }, so-far .count)
+    pub kept-clear : Clear kept other
+    kept-clear z set = exclusive (first .right z (kept-candidates z set)) set
+
+    module _ {own : List ℕ} {alone close : ℕ} (second-stage : Parted (SortedAt corners second 0 0 from 1 own) kept other alone close) where
+      alone-kept : Among alone kept
+      alone-kept z set = by-bit (bit z kept) refl
+        where
+          by-bit : (b : Bool) → bit z kept ≡ b → bit z kept ≡ true
+          by-bit true e = e
+          by-bit false e = both set (second-stage .kept-none z e)
+
+      pub alone-candidates : Among alone candidates
+      alone-candidates z set = kept-candidates z (alone-kept z set)
+
+      -- A close pair was found so by the first stage, or by the second.
+      close-case : (z : ℕ) → bit z close ≡ true → (bit z kept ≡ true) ⊎ (bit z other ≡ true)
+      close-case z set = by-bit (bit z kept) refl
+        where
+          by-bit : (b : Bool) → bit z kept ≡ b → (bit z kept ≡ true) ⊎ (bit z other ≡ true)
+          by-bit true e = inl e
+          by-bit false e = inr (sym (second-stage .other-stays z e) ∙ set)
+
+      pub close-candidates : Among close candidates
+      close-candidates z set = by-case (close-case z set)
+        where
+          by-case : (bit z kept ≡ true) ⊎ (bit z other ≡ true) → bit z candidates ≡ true
+          by-case (inl e) = kept-candidates z e
+          by-case (inr e) = other-candidates z e
+
+      pub alone-clear : Clear alone close
+      alone-clear z set = exclusive (second-stage .right z (alone-kept z set)) set
+
+      pub all-alone : AllAlone corners own second standings from alone
+      all-alone = record {
+        stands-first = λ z set. rw (← (lined-alone corners long z)) (second-stage .right z (alone-kept z set) .alone set);
+        near-second = λ z set. second-stage .right z (alone-kept z set) .near set;
+        stands-second = λ z set. rw (← (lined-alone corners long z)) (first .right z (alone-candidates z set) .alone (alone-kept z set));
+        near-first = λ z set. first .right z (alone-candidates z set) .near (alone-kept z set);
+      }
+
+      pub all-stood : AllStood corners own second standings from close
+      all-stood z set = by-case (close-case z set)
+        where
+          by-case : (bit z kept ≡ true) ⊎ (bit z other ≡ true) → Stood corners (lined second from 1 z) (getD own z 0) (getD standings z 0)
+          by-case (inl e) =
+              let one = first .right z (kept-candidates z e) in
+              let two = second-stage .right z e in
+              record {
+                second = rw (← (lined-alone corners long z)) (one .alone e);
+                near-first = λ r0. omega (arith, one .near e);
+                first = λ r1. rw (← (lined-alone corners long z)) (two .within set);
+                near-second = λ r1 s0. omega (arith, two .close set);
+              }
+          by-case (inr e) =
+              let one = first .right z (other-candidates z e) in
+              record {
+                second = rw (← (lined-alone corners long z)) (one .within e);
+                near-first = λ r0. omega (arith, one .close e);
+                first = λ r1. absurd (r1 (one .close e));
+                near-second = λ r1. absurd (r1 (one .close e));
+              }
+
+      -- What is neither alone nor close has no point in common with the triangle.
+      apart : (z : ℕ) → z < n → bit z alone ≡ false → bit z close ≡ false → Share 3 (pointsAt 3 3 0 corners) (pointsAt 3 3 0 (nine (from + z) second)) → ⊥
+      apart z h none-alone none-close shared =
+          let met : bit z candidates ≡ true = may .set z h shared in
+          let there : Share 3 (pointsAt 3 3 0 corners) (pointsAt 3 3 0 (lined second from 1 z)) = rw (lined-second second from z) shared in
+          by-bits (bit z kept) (bit z other) refl refl met there
+        where
+          by-bits : (k o : Bool) → bit z kept ≡ k → bit z other ≡ o → bit z candidates ≡ true →
+              Share 3 (pointsAt 3 3 0 corners) (pointsAt 3 3 0 (lined second from 1 z)) → ⊥
+          by-bits true o e f met there = second-stage .right z e .apart none-alone none-close (rw (lined-alone corners long z) there)
+          by-bits false true e f met there = both f (sym (second-stage .other-stays z e) ∙ none-close)
+          by-bits false false e f met there = first .right z met .apart e f (rw (lined-alone corners long z) (share-trade there))
+
+      pub word-decided : {word : ℕ} → Judged corners second from alone close word → Verdicts corners second from n word
+      word-decided {word} judged = record {
+        small =
+            judged .small n (second-stage .kept-small n (first .kept-small n (may .small)))
+            (second-stage .other-small n (first .other-small n (pow-pos n) (may .small)) (first .kept-small n (may .small)));
+        right = right;
+      }
+        where
+          right : (z : ℕ) → z < n → Judges 3 3 3 corners (nine (from + z) second) (bit z word)
+          right z h = by-bits (bit z alone) (bit z close) refl refl
+            where
+              by-bits : (a c : Bool) → bit z alone ≡ a → bit z close ≡ c → Judges 3 3 3 corners (nine (from + z) second) (bit z word)
+              by-bits true c e f = rw (← (lined-second second from z)) (judged .right z (inl e) .judges)
+              by-bits false true e f = rw (← (lined-second second from z)) (judged .right z (inr f) .judges)
+              by-bits false false e f = rw (judged .none z e f) (says-no (apart z h e f))
+
+-- A word without candidates.
+pub none-decided : {corners second : List ℤ} {from n candidates : ℕ} → MayMeet corners second from n candidates → candidates ≡ 0 →
+    Verdicts corners second from n 0
+none-decided {corners} {second} {from} {n} {candidates} may none = record {
+  small = pow-pos n;
+  right = λ z h. rw (bit-of-none z) (says-no (λ shared. both (may .set z h shared) (rw none (bit-of-none z))));
+}
 
 -- ---- candidates by boxes
 -- Triangles that have a point in common have boxes that reach each other.

@@ -1,99 +1,254 @@
 // The verdicts on all pairs of two lists, each pair decided once and kept as a bit of a word. Boxes tell of most pairs that they are apart; the
-// others are candidates, and the pair test decides them.
+// others are candidates, and a word of them is decided in stages.
+use crate::standings::stand_by_estimate;
+use crate::standings::stand_exactly;
+use crate::verdicts::cross_by_estimate;
+use crate::verdicts::decide_rest;
+use boxes::is_narrow;
 use boxes::put_boxes;
 use boxes::put_normals;
-use kernel::known_triangles_meet;
+use boxes::put_planes;
 use sifting::put_candidates;
-use words::lowest_of;
-use words::without_lowest;
+use words::ones_of;
 ghost use mathlib.Core.Path.{_≡_};
-ghost use Prim.Native.Nat.{_*_, _≤_, _<_};
+ghost use Prim.Native.Nat.{_*_, _/_, _≤_, _<_};
 ghost use lib.ListN.{length};
-ghost use Rattle.kernel.specs.Meeting.{Judges};
-ghost use Rattle.words.specs.Bits.{ones};
-ghost use Rattle.words.specs.Spans.{span};
+ghost use Rattle.exact.specs.Grid.{Narrow, BothNarrow};
+ghost use Rattle.words.specs.Spans.{firstOf, span};
 ghost use Rattle.boxes.specs.Triangles.{triangles, nine};
 ghost use Rattle.boxes.specs.Boxes.{Sound, Known, Prepared};
 ghost use Rattle.deciding.specs.Words.{MayMeet, MayMeetBelow, Verdicts, VerdictsBelow, onesBelow};
 
-// A word of verdicts, and how many of them are yes.
-pub struct Word {
-    pub bits: u64,
-    pub found: u64,
-}
-
-// Whether the triangle in nine numbers, with this normal, meets triangle j of the second list.
-fn pair_meets(corners: &[i32], plane: &[i64], second: &[i32], normals: &[i64], j: usize) -> bool
-    requires { ⌜ Known (now corners) (now plane) × Prepared (now second) (now normals) × (j < triangles (now second)) ⌝ }
-    ensures { λ r. ⌜ Judges 3 3 3 (now (corners .entry)) (nine j (now (second .entry))) r ⌝ }
+// The verdicts on the triangle and those of the second list from one on, 64 at the most. Only the candidates are looked at: how they stand to the plane of
+// the triangle, how the triangle stands to the planes of those that are left, and the last signs of what is left then, by the estimate each and exactly
+// where that can't tell.
+fn decide_word(
+    corners: &[i32],
+    normal: &[i64],
+    plane: &[f64],
+    second: &[i32],
+    normals: &[i64],
+    planes: &[f64],
+    from: usize,
+    candidates: u64,
+) -> u64
+    requires { ⌜ Known (now corners) (now normal) (now plane) × Prepared (now second) (now normals) (now planes) × (from ≤ 1024) × MayMeet (now corners) (now second) from (span (triangles (now second)) from) candidates ⌝ }
+    ensures { λ r. ⌜ Verdicts (now (corners .entry)) (now (second .entry)) from (span (triangles (now (second .entry))) from) r ⌝ }
 {
-    let at = 9 * j;
-    let normal_at = 3 * j;
-    known_triangles_meet(
+    let mut standings = [0u32; 64];
+    let seen = stand_by_estimate(
+        &mut standings[..],
+        second,
+        from,
+        1,
         corners,
+        0,
+        0,
         plane,
-        &second[at..at + 9],
-        &normals[normal_at..normal_at + 3],
+        candidates,
+    );
+    let first = stand_exactly(
+        false,
+        &mut standings[..],
+        second,
+        from,
+        1,
+        corners,
+        0,
+        0,
+        normal,
+        seen.other,
+        seen.kept,
+        0,
+    );
+    let mut own = [0u32; 64];
+    let again = stand_by_estimate(
+        &mut own[..],
+        corners,
+        0,
+        0,
+        second,
+        from,
+        1,
+        planes,
+        first.kept,
+    );
+    let both = stand_exactly(
+        false,
+        &mut own[..],
+        corners,
+        0,
+        0,
+        second,
+        from,
+        1,
+        normals,
+        again.other,
+        again.kept,
+        first.other,
+    );
+    let told = cross_by_estimate(
+        corners,
+        &own[..],
+        second,
+        &standings[..],
+        from,
+        both.kept,
+        both.other,
+    );
+    decide_rest(
+        false,
+        corners,
+        &own[..],
+        second,
+        &standings[..],
+        from,
+        told.other,
+        told.kept,
     )
 }
 
-// The verdicts on the triangle and those of the second list from one on, 64 at the most. Only the candidates are looked at, the lowest first.
-fn decide_word(
+// The same where 64 bits are enough for every sign, so that the estimate is not worth asking.
+fn decide_narrow_word(
     corners: &[i32],
-    plane: &[i64],
+    normal: &[i64],
+    plane: &[f64],
     second: &[i32],
     normals: &[i64],
+    planes: &[f64],
     from: usize,
     candidates: u64,
-) -> Word
-    requires { ⌜ Known (now corners) (now plane) × Prepared (now second) (now normals) × MayMeet (now corners) (now second) from (span (triangles (now second)) from) candidates ⌝ }
-    ensures { λ r. ⌜ Verdicts (now (corners .entry)) (now (second .entry)) from (span (triangles (now (second .entry))) from) (r .bits) × (r .found ≡ ones (span (triangles (now (second .entry))) from) (r .bits)) ⌝ }
+) -> u64
+    requires { ⌜ Known (now corners) (now normal) (now plane) × Prepared (now second) (now normals) (now planes) × (from ≤ 1024) × MayMeet (now corners) (now second) from (span (triangles (now second)) from) candidates × Narrow (now corners) × Narrow (now second) ⌝ }
+    ensures { λ r. ⌜ Verdicts (now (corners .entry)) (now (second .entry)) from (span (triangles (now (second .entry))) from) r ⌝ }
 {
-    let mut bits: u64 = 0;
-    let mut found: u64 = 0;
-    let mut left = candidates;
-    while left != 0 {
-        let next = without_lowest(left);
-        let j = from + lowest_of(left) as usize;
-        let meet = pair_meets(corners, plane, second, normals, j) as u64;
-        bits += meet * (left - next); // the power of two of the lowest bit, where they meet
-        found += meet;
-        left = next;
-    }
-    Word {
-        bits: bits,
-        found: found,
-    }
+    let mut standings = [0u32; 64];
+    let first = stand_exactly(
+        true,
+        &mut standings[..],
+        second,
+        from,
+        1,
+        corners,
+        0,
+        0,
+        normal,
+        candidates,
+        0,
+        0,
+    );
+    let mut own = [0u32; 64];
+    let both = stand_exactly(
+        true,
+        &mut own[..],
+        corners,
+        0,
+        0,
+        second,
+        from,
+        1,
+        normals,
+        first.kept,
+        0,
+        first.other,
+    );
+    let word = decide_rest(
+        true,
+        corners,
+        &own[..],
+        second,
+        &standings[..],
+        from,
+        both.kept,
+        0,
+    );
+    decide_rest(
+        true,
+        corners,
+        &own[..],
+        second,
+        &standings[..],
+        from,
+        both.other,
+        word,
+    )
 }
 
-// All words of two lists whose normals are known: each has its candidates, and gets their verdicts. Gives how many pairs meet.
-fn decide_words(
+// The verdicts of word k of two lists. Where there is no candidate, nothing is looked at.
+fn decide_word_of(
+    narrow: bool,
     first: &[i32],
-    planes: &[i64],
-    second: &[i32],
     normals: &[i64],
+    planes: &[f64],
+    second: &[i32],
+    others: &[i64],
+    rough: &[f64],
+    k: usize,
+    candidates: u64,
+) -> u64
+    requires { ⌜ Prepared (now first) (now normals) (now planes) × Prepared (now second) (now others) (now rough) × BothNarrow narrow (now first) (now second) × (k < triangles (now first) * 16) × MayMeet (nine (k / 16) (now first)) (now second) (firstOf k) (span (triangles (now second)) (firstOf k)) candidates ⌝ }
+    ensures { λ r. ⌜ Verdicts (nine (k / 16) (now (first .entry))) (now (second .entry)) (firstOf k) (span (triangles (now (second .entry))) (firstOf k)) r ⌝ }
+{
+    if candidates == 0 {
+        return 0;
+    }
+    let at = 9 * (k / 16);
+    let normal_at = 3 * (k / 16);
+    if narrow {
+        return decide_narrow_word(
+            &first[at..at + 9],
+            &normals[normal_at..normal_at + 3],
+            &planes[normal_at..normal_at + 3],
+            second,
+            others,
+            rough,
+            k % 16 * 64,
+            candidates,
+        );
+    }
+    decide_word(
+        &first[at..at + 9],
+        &normals[normal_at..normal_at + 3],
+        &planes[normal_at..normal_at + 3],
+        second,
+        others,
+        rough,
+        k % 16 * 64,
+        candidates,
+    )
+}
+
+// All words of two lists whose normals and planes are known: each has its candidates, and gets their verdicts. Gives how many pairs meet.
+fn decide_words(
+    narrow: bool,
+    first: &[i32],
+    normals: &[i64],
+    planes: &[f64],
+    second: &[i32],
+    others: &[i64],
+    rough: &[f64],
     words: &mut [u64],
 ) -> u64
-    requires { ⌜ Prepared (now first) (now planes) × Prepared (now second) (now normals) × (triangles (now first) * 16 ≤ length (now words)) × MayMeetBelow (now first) (now second) (now words) (triangles (now first) * 16) ⌝ }
+    requires { ⌜ Prepared (now first) (now normals) (now planes) × Prepared (now second) (now others) (now rough) × BothNarrow narrow (now first) (now second) × (triangles (now first) * 16 ≤ length (now words)) × MayMeetBelow (now first) (now second) (now words) (triangles (now first) * 16) ⌝ }
     ensures { λ r. ⌜ VerdictsBelow (now (first .entry)) (now (second .entry)) (now (words .exit)) (triangles (now (first .entry)) * 16) × (r ≡ onesBelow (triangles (now (second .entry))) (now (words .exit)) (triangles (now (first .entry)) * 16)) ⌝ }
 {
     let end = first.len() / 9 * 16;
     let mut found: u64 = 0;
     let mut k: usize = 0;
     while k < end {
-        let i = k / 16;
-        let at = 9 * i;
-        let normal_at = 3 * i;
-        let word = decide_word(
-            &first[at..at + 9],
-            &planes[normal_at..normal_at + 3],
-            second,
+        let word = decide_word_of(
+            narrow,
+            first,
             normals,
-            k % 16 * 64,
+            planes,
+            second,
+            others,
+            rough,
+            k,
             words[k],
         );
-        words[k] = word.bits;
-        found += word.found;
+        words[k] = word;
+        found += ones_of(word) as u64;
         k += 1;
     }
     found
@@ -117,15 +272,29 @@ fn put_all_candidates(first: &[i32], second: &[i32], words: &mut [u64])
     );
 }
 
-// The verdicts on all pairs of two lists that passed the checks. Gives how many pairs meet. There are boxes and normals for 1,024 triangles a list.
+// The verdicts on all pairs of two lists that passed the checks. Gives how many pairs meet. There are boxes, normals and planes for 1,024
+// triangles a list.
 pub fn decide_lists(first: &[i32], second: &[i32], words: &mut [u64]) -> u64
     requires { ⌜ Sound (now first) × Sound (now second) × (triangles (now first) * 16 ≤ length (now words)) ⌝ }
     ensures { λ r. ⌜ VerdictsBelow (now (first .entry)) (now (second .entry)) (now (words .exit)) (triangles (now (first .entry)) * 16) × (r ≡ onesBelow (triangles (now (second .entry))) (now (words .exit)) (triangles (now (first .entry)) * 16)) ⌝ }
 {
     put_all_candidates(first, second, words);
-    let mut planes = [0i64; 3_072];
-    put_normals(&mut planes[..], first);
     let mut normals = [0i64; 3_072];
-    put_normals(&mut normals[..], second);
-    decide_words(first, &planes[..], second, &normals[..], words)
+    put_normals(&mut normals[..], first);
+    let mut planes = [0.0f64; 3_072];
+    put_planes(&mut planes[..], first);
+    let mut others = [0i64; 3_072];
+    put_normals(&mut others[..], second);
+    let mut rough = [0.0f64; 3_072];
+    put_planes(&mut rough[..], second);
+    decide_words(
+        is_narrow(first) & is_narrow(second),
+        first,
+        &normals[..],
+        &planes[..],
+        second,
+        &others[..],
+        &rough[..],
+        words,
+    )
 }

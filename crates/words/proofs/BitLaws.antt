@@ -27,6 +27,15 @@ bit-of-all (suc t) (suc n) h =
     let half : (2 ^ suc n - 1) / 2 ≡ 2 ^ n - 1 = omega (arith, pow-pos n) in
     rw half (bit-of-all t n (omega arith))
 
+pub set-within : (t n word : ℕ) → word < 2 ^ n → bit t word ≡ true → t < n
+set-within t zero word small set =
+    let none : word ≡ 0 = omega arith in
+    let clear : bit t word ≡ false = rw none (bit-of-none t) in
+    let same : _≡_ {A = ℕ} 0 1 = cc in
+    absurd (omega arith)
+set-within zero (suc n) word small set = omega arith
+set-within (suc t) (suc n) word small set = omega (arith, set-within t n (word / 2) (omega arith) set)
+
 pub few-ones : (n word : ℕ) → ones n word ≤ n
 few-ones zero word = omega arith
 few-ones (suc n) word = omega (arith, few-ones n (word / 2))

@@ -1,5 +1,7 @@
--- `deciding::deciding::decide_lists` meets its contract: the candidates and the normals of both lists are known when the words are decided. Assumes nothing.
+-- `deciding::deciding::decide_lists` meets its contract: the candidates, normals and planes of both lists are known when the words are decided. Assumes
+-- nothing.
 use native.Mathlib.Omega.{arith}
+use Rattle.deciding.proofs.Rounds.{both-true}
 use borrow.Author.Needs.{needs}
 use Rattle.deciding.proofs.deciding.decide_lists.Statement.{statement}
 use Rattle.deciding.proofs.deciding.decide_lists.Tie as tie
@@ -13,11 +15,29 @@ slice-aggregate-put-normals c = search needs
 put-normals-requires : tie.Need-put-normals-requires
 put-normals-requires c κs = search needs
 
+slice-aggregate-put-planes : tie.Need-slice-aggregate-put-planes
+slice-aggregate-put-planes c = search needs
+
+put-planes-requires : tie.Need-put-planes-requires
+put-planes-requires c κs = search needs
+
 slice-aggregate-put-normals-2 : tie.Need-slice-aggregate-put-normals-2
 slice-aggregate-put-normals-2 c = search needs
 
 put-normals-requires-2 : tie.Need-put-normals-requires-2
 put-normals-requires-2 c κs = search needs
+
+slice-aggregate-put-planes-2 : tie.Need-slice-aggregate-put-planes-2
+slice-aggregate-put-planes-2 c = search needs
+
+put-planes-requires-2 : tie.Need-put-planes-requires-2
+put-planes-requires-2 c κs = search needs
+
+is-narrow-requires : tie.Need-is-narrow-requires
+is-narrow-requires c κs = search needs
+
+is-narrow-requires-2 : tie.Need-is-narrow-requires-2
+is-narrow-requires-2 c κs = search needs
 
 slice-aggregate-decide-words : tie.Need-slice-aggregate-decide-words
 slice-aggregate-decide-words c = search needs
@@ -25,15 +45,39 @@ slice-aggregate-decide-words c = search needs
 slice-aggregate-decide-words-2 : tie.Need-slice-aggregate-decide-words-2
 slice-aggregate-decide-words-2 c = search needs
 
+slice-aggregate-decide-words-3 : tie.Need-slice-aggregate-decide-words-3
+slice-aggregate-decide-words-3 c = search needs
+
+slice-aggregate-decide-words-4 : tie.Need-slice-aggregate-decide-words-4
+slice-aggregate-decide-words-4 c = search needs
+
 decide-words-requires : tie.Need-decide-words-requires
 decide-words-requires c κs =
-    let n = c .before .before .before in
-    let m = n .before .before .before in
-    let all = m .before .before .before .before .before in
+    let second-narrow = c .before .before .before .before .before in
+    let first-narrow = second-narrow .before in
+    let rough = first-narrow .before .before in
+    let others = rough .before .before .before in
+    let planes = others .before .before .before in
+    let normals = planes .before .before .before in
+    let all = normals .before .before .before .before in
     let p = all .before .before .before in (
-      record { sound = p .pre .0; room = omega (arith, m .planes2 .given, p .pre .0 .few); normal = m .before .put-normals .ensures },
-      record { sound = p .pre .1; room = omega (arith, n .normals2 .given, p .pre .1 .few); normal = n .before .put-normals2 .ensures },
-      omega (arith, p .pre .2, c .before .before .before .before .before .before .before .before .before .before .words .given),
+      record {
+        sound = p .pre .0;
+        normal-room = omega (arith, planes .before .before .normals2 .given, p .pre .0 .few);
+        normal = normals .put-normals .ensures;
+        plane-room = omega (arith, others .before .before .planes2 .given, p .pre .0 .few);
+        plane = planes .put-planes .ensures;
+      },
+      record {
+        sound = p .pre .1;
+        normal-room = omega (arith, rough .before .before .others2 .given, p .pre .1 .few);
+        normal = others .put-normals2 .ensures;
+        plane-room = omega (arith, first-narrow .before .rough2 .given, p .pre .1 .few);
+        plane = rough .put-planes2 .ensures;
+      },
+      (λ flag. let each = both-true (first-narrow .is-narrow .result) (second-narrow .is-narrow2 .result) flag in
+          (first-narrow .is-narrow .ensures .yes (each .0), second-narrow .is-narrow2 .ensures .yes (each .1))),
+      omega (arith, p .pre .2, normals .before .before .before .words .given),
       all .put-all-candidates .ensures,
     )
 
@@ -50,10 +94,18 @@ decide-lists-spec =
     put-all-candidates-requires
     slice-aggregate-put-normals
     put-normals-requires
+    slice-aggregate-put-planes
+    put-planes-requires
     slice-aggregate-put-normals-2
     put-normals-requires-2
+    slice-aggregate-put-planes-2
+    put-planes-requires-2
+    is-narrow-requires
+    is-narrow-requires-2
     slice-aggregate-decide-words
     slice-aggregate-decide-words-2
+    slice-aggregate-decide-words-3
+    slice-aggregate-decide-words-4
     decide-words-requires
     same-length
     returns)

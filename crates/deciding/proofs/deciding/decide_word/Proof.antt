@@ -1,111 +1,169 @@
--- `deciding::deciding::decide_word` meets its contract: each turn decides the lowest candidate. Assumes nothing.
-use mathlib.Core.Path.{subst}
-use Prim.Native.Nat.{ℕ, _-_}
-use native.Mathlib.Omega.{arith}
-use Rattle.words.specs.Spans.{span}
-use Rattle.words.proofs.LowestLaws.{lowest-found, lowest-within, rest-less}
-use Rattle.boxes.specs.Triangles.{triangles}
-use Rattle.deciding.proofs.WordLaws.{Deciding, deciding-starts, deciding-on, deciding-fits, deciding-ends}
+-- `deciding::deciding::decide_word` meets its contract: what the stages leave of the candidates is judged, and the rest is apart. Assumes nothing.
+use mathlib.Core.Path.{refl}
+use Rattle.words.proofs.BitLaws.{bit-of-none}
+use Rattle.words.proofs.Filling.{both}
+use Rattle.deciding.specs.Stages.{Among, Parted, SortedAt}
+use Rattle.deciding.proofs.Rounds.{lined-among, normalled-among, planed-among, open-among, open-clear, parted-both, own-numbered, standings-numbered, rest-stood, rest-lined, rest-clear, judged-rest}
+use Rattle.deciding.proofs.WordLaws.{corners-lined, corners-normalled, corners-planed, second-lined, second-normalled, second-planed, kept-candidates, kept-clear, alone-candidates, close-candidates, alone-clear, all-alone, all-stood, word-decided}
 use borrow.Author.Needs.{needs}
 use Rattle.deciding.proofs.deciding.decide_word.Statement.{statement}
 use Rattle.deciding.proofs.deciding.decide_word.Tie as tie
 
-abbrev Inv-loop : tie.InvT-loop
-Inv-loop corners plane second normals from candidates bits₀ found₀ left₀ bits found left =
-    Deciding corners second from (span (triangles second) from) left bits found
+-- What the first two loops leave, and the next two.
+first-stage : (c : tie.After-stand-exactly) →
+    let a = c .before .before .before .before .before .before .before .args in
+    Parted (SortedAt (a .second .now) (a .corners .now) (a .from) 1 0 0 (c .stand-exactly .last .1 .0)) (a .candidates) 0 (c .stand-exactly .result .kept) (c .stand-exactly .result .other)
+first-stage c =
+    let seen = c .before .before .before .stand-by-estimate .ensures in
+    let found = c .stand-exactly .ensures in
+    parted-both (seen .0) (seen .1) (seen .2) (λ z set. bit-of-none z) (found .0) (found .1) (found .2)
 
-abbrev μ-loop : tie.MeasureT-loop
-μ-loop corners plane second normals from candidates bits₀ found₀ left₀ bits found left = left
+second-stage : (c : tie.After-stand-exactly2) →
+    let one = c .before .before .before .before .before .before .stand-exactly .result in
+    let a = c .before .before .before .before .before .before .before .before .before .before .before .before .before .args in
+    Parted (SortedAt (a .corners .now) (a .second .now) 0 0 (a .from) 1 (c .stand-exactly2 .last .1 .0)) (one .kept) (one .other) (c .stand-exactly2 .result .kept) (c .stand-exactly2 .result .other)
+second-stage c =
+    let one = c .before .before .before .before .before .before in
+    let p = c .before .before .before .before .before .before .before .before .before .before .before .before .before .pre in
+    let seen = c .before .before .before .stand-by-estimate2 .ensures in
+    let found = c .stand-exactly2 .ensures in
+    parted-both (seen .0) (seen .1) (seen .2) (kept-clear (p .0 .ready .long) (p .3) (first-stage one)) (found .0) (found .1) (found .2)
 
-loop-holds : tie.Need-loop-holds Inv-loop μ-loop
-loop-holds c =
-    deciding-starts (c .pre .2)
+slice-aggregate-stand-by-estimate : tie.Need-slice-aggregate-stand-by-estimate
+slice-aggregate-stand-by-estimate c = search needs
 
-without-lowest-requires : tie.Need-without-lowest-requires Inv-loop μ-loop
-without-lowest-requires c κs = search needs
+stand-by-estimate-requires : tie.Need-stand-by-estimate-requires
+stand-by-estimate-requires c κs =
+    let p = c .before .before .before .pre in
+    let asked = c .before .before .before .args .candidates in
+    (refl, second-lined (p .1) (p .2) (p .3 .small), corners-lined (p .0) asked, corners-planed (p .0) asked)
 
-lowest-of-requires : tie.Need-lowest-of-requires Inv-loop μ-loop
-lowest-of-requires c κs = search needs
+slice-aggregate-stand-exactly : tie.Need-slice-aggregate-stand-exactly
+slice-aggregate-stand-exactly c = search needs
 
-cast-j : tie.Need-cast-j Inv-loop μ-loop
-cast-j c = search needs
+stand-exactly-requires : tie.Need-stand-exactly-requires
+stand-exactly-requires c κs =
+    let p = c .before .before .before .before .before .before .pre in
+    let asked = c .before .before .before .before .before .before .args .candidates in
+    let seen = c .before .before .stand-by-estimate .ensures in
+    let among = open-among (seen .0) (seen .1) (seen .2) (λ z set. bit-of-none z) in (
+      seen .0 .long,
+      lined-among among (second-lined (p .1) (p .2) (p .3 .small)),
+      lined-among among (corners-lined (p .0) asked),
+      normalled-among among (corners-normalled (p .0) asked),
+      (λ flag. both flag refl),
+      open-clear (seen .0) (seen .1) (seen .2) (λ z set. bit-of-none z),
+      (λ z set. bit-of-none z),
+    )
 
-add-j : tie.Need-add-j Inv-loop μ-loop
-add-j c =
-    let l = c .before .before .before .loop in
-    let p = c .before .before .before .before in
-    let low = lowest-found (c .lowest-of .ensures .0) (c .before .without-lowest .ensures) in
-    let inside = lowest-within low (span (triangles (p .args .second .now)) (p .args .from)) (l .inv .few) in
-    omega (arith, inside, p .pre .1 .sound .few)
+slice-aggregate-stand-by-estimate-2 : tie.Need-slice-aggregate-stand-by-estimate-2
+slice-aggregate-stand-by-estimate-2 c = search needs
 
-pair-meets-requires : tie.Need-pair-meets-requires Inv-loop μ-loop
-pair-meets-requires c κs =
-    let l = c .before .before .before .loop in
-    let p = c .before .before .before .before in
-    let low = lowest-found (c .lowest-of .ensures .0) (c .before .without-lowest .ensures) in
-    let inside = lowest-within low (span (triangles (p .args .second .now)) (p .args .from)) (l .inv .few) in
-    (p .pre .0, p .pre .1, omega (arith, inside))
+stand-by-estimate-requires-2 : tie.Need-stand-by-estimate-requires-2
+stand-by-estimate-requires-2 c κs =
+    let one = c .before .before in
+    let p = c .before .before .before .before .before .before .before .before .before .pre in
+    let among = kept-candidates (p .0 .ready .long) (p .3) (first-stage one) in (
+      refl,
+      corners-lined (p .0) (one .stand-exactly .result .kept),
+      lined-among among (second-lined (p .1) (p .2) (p .3 .small)),
+      planed-among among (second-planed (p .1) (p .2) (p .3 .small)),
+    )
 
-cast-meet : tie.Need-cast-meet Inv-loop μ-loop
-cast-meet c = search needs
+slice-aggregate-stand-exactly-2 : tie.Need-slice-aggregate-stand-exactly-2
+slice-aggregate-stand-exactly-2 c = search needs
 
-sub-bits : tie.Need-sub-bits Inv-loop μ-loop
-sub-bits c = omega (arith, rest-less (c .before .before .without-lowest .ensures))
+stand-exactly-requires-2 : tie.Need-stand-exactly-requires-2
+stand-exactly-requires-2 c κs =
+    let one = c .before .before .before .before .before in
+    let p = c .before .before .before .before .before .before .before .before .before .before .before .before .pre in
+    let long = p .0 .ready .long in
+    let clear = kept-clear long (p .3) (first-stage one) in
+    let seen = c .before .before .stand-by-estimate2 .ensures in
+    let open-kept = open-among (seen .0) (seen .1) (seen .2) clear in
+    let among : Among (c .before .before .stand-by-estimate2 .result .other) (c .before .before .before .before .before .before .before .before .before .before .before .before .args .candidates) = λ z set. kept-candidates long (p .3) (first-stage one) z (open-kept z set) in (
+      seen .0 .long,
+      lined-among open-kept (corners-lined (p .0) (one .stand-exactly .result .kept)),
+      lined-among among (second-lined (p .1) (p .2) (p .3 .small)),
+      normalled-among among (second-normalled (p .1) (p .2) (p .3 .small)),
+      (λ flag. both flag refl),
+      open-clear (seen .0) (seen .1) (seen .2) clear,
+      (λ z set. clear z (open-kept z set)),
+    )
 
-mul-bits : tie.Need-mul-bits Inv-loop μ-loop
-mul-bits c =
-    let l = c .before .before .before .before .loop in
-    let q = c .before .before in
-    let low = lowest-found (c .before .lowest-of .ensures .0) (q .without-lowest .ensures) in
-    omega (arith, deciding-fits (omega arith) (deciding-on (l .inv) low (c .pair-meets .ensures)) .0)
+slice-aggregate-cross-by-estimate : tie.Need-slice-aggregate-cross-by-estimate
+slice-aggregate-cross-by-estimate c = search needs
 
-add-bits : tie.Need-add-bits Inv-loop μ-loop
-add-bits c =
-    let l = c .before .before .before .before .loop in
-    let q = c .before .before in
-    let low = lowest-found (c .before .lowest-of .ensures .0) (q .without-lowest .ensures) in
-    omega (arith, deciding-fits (omega arith) (deciding-on (l .inv) low (c .pair-meets .ensures)) .0)
+slice-aggregate-cross-by-estimate-2 : tie.Need-slice-aggregate-cross-by-estimate-2
+slice-aggregate-cross-by-estimate-2 c = search needs
 
-add-found : tie.Need-add-found Inv-loop μ-loop
-add-found c =
-    let l = c .before .before .before .before .loop in
-    let q = c .before .before in
-    let low = lowest-found (c .before .lowest-of .ensures .0) (q .without-lowest .ensures) in
-    omega (arith, deciding-fits (omega arith) (deciding-on (l .inv) low (c .pair-meets .ensures)) .1)
+cross-by-estimate-requires : tie.Need-cross-by-estimate-requires
+cross-by-estimate-requires c κs =
+    let two = c .before .before .before in
+    let one = two .before .before .before .before .before .before in
+    let p = c .before .before .before .before .before .before .before .before .before .before .before .before .before .before .before .before .pre in
+    let long = p .0 .ready .long in
+    let alone = all-alone long (p .3) (first-stage one) (second-stage two) in (
+      p .0 .ready,
+      two .stand-exactly2 .ensures .0 .long,
+      lined-among (alone-candidates long (p .3) (first-stage one) (second-stage two)) (second-lined (p .1) (p .2) (p .3 .small)),
+      one .stand-exactly .ensures .0 .long,
+      own-numbered alone,
+      standings-numbered alone,
+      alone-clear long (p .3) (first-stage one) (second-stage two),
+    )
 
-loop-less : tie.Need-loop-less Inv-loop μ-loop
-loop-less c = rest-less (c .before .before .without-lowest .ensures)
+slice-aggregate-decide-rest : tie.Need-slice-aggregate-decide-rest
+slice-aggregate-decide-rest c = search needs
 
-loop-again : tie.Need-loop-again Inv-loop μ-loop
-loop-again c =
-    let l = c .before .before .before .before .loop in
-    let q = c .before .before in
-    let low = lowest-found (c .before .lowest-of .ensures .0) (q .without-lowest .ensures) in
-    deciding-on (l .inv) low (c .pair-meets .ensures)
+slice-aggregate-decide-rest-2 : tie.Need-slice-aggregate-decide-rest-2
+slice-aggregate-decide-rest-2 c = search needs
 
-returns : tie.Need-returns Inv-loop μ-loop
+decide-rest-requires : tie.Need-decide-rest-requires
+decide-rest-requires c κs =
+    let told = c .before .before .cross-by-estimate .ensures in
+    let two = c .before .before .before .before .before .before in
+    let one = two .before .before .before .before .before .before in
+    let p = c .before .before .before .before .before .before .before .before .before .before .before .before .before .before .before .before .before .before .before .pre in
+    let long = p .0 .ready .long in
+    let alone = all-alone long (p .3) (first-stage one) (second-stage two) in
+    let stood = all-stood long (p .3) (first-stage one) (second-stage two) in
+    let all = second-lined (p .1) (p .2) (p .3 .small) in (
+      p .0 .ready,
+      two .stand-exactly2 .ensures .0 .long,
+      rest-lined alone stood told (lined-among (alone-candidates long (p .3) (first-stage one) (second-stage two)) all) (lined-among (close-candidates long (p .3) (first-stage one) (second-stage two)) all),
+      one .stand-exactly .ensures .0 .long,
+      rest-stood alone stood told,
+      (λ flag. both flag refl),
+      rest-clear alone stood told,
+    )
+
+returns : tie.Need-returns
 returns c =
-    let l = c .before .loop in
-    let a = c .before .before .args in
-    deciding-ends (subst (λ (k : ℕ). Deciding (a .corners .now) (a .second .now) (a .from) (span (triangles (a .second .now)) (a .from)) k (l .bits) (l .found)) (c .loop-test .left) (l .inv))
+    let told = c .before .before .before .cross-by-estimate .ensures in
+    let two = c .before .before .before .before .before .before .before in
+    let one = two .before .before .before .before .before .before in
+    let p = c .before .before .before .before .before .before .before .before .before .before .before .before .before .before .before .before .before .before .before .before .pre in
+    let long = p .0 .ready .long in
+    word-decided long (p .3) (first-stage one) (second-stage two)
+    (judged-rest (all-alone long (p .3) (first-stage one) (second-stage two)) (all-stood long (p .3) (first-stage one) (second-stage two)) told (c .decide-rest .ensures))
 
 pub decide-word-spec : {M : Type 1} → statement M
 decide-word-spec =
     tie.close
     (tie.spec
-    Inv-loop
-    μ-loop
-    loop-holds
-    without-lowest-requires
-    lowest-of-requires
-    cast-j
-    add-j
-    pair-meets-requires
-    cast-meet
-    sub-bits
-    mul-bits
-    add-bits
-    add-found
-    loop-less
-    loop-again
+    slice-aggregate-stand-by-estimate
+    stand-by-estimate-requires
+    slice-aggregate-stand-exactly
+    stand-exactly-requires
+    slice-aggregate-stand-by-estimate-2
+    stand-by-estimate-requires-2
+    slice-aggregate-stand-exactly-2
+    stand-exactly-requires-2
+    slice-aggregate-cross-by-estimate
+    slice-aggregate-cross-by-estimate-2
+    cross-by-estimate-requires
+    slice-aggregate-decide-rest
+    slice-aggregate-decide-rest-2
+    decide-rest-requires
     returns)

@@ -1,0 +1,30 @@
+// Whether the numbers of a list are so small that 64 bits are enough for every sign, as they were for all lists on the grid before Q-6.
+ghost use mathlib.Core.Path.{_≡_};
+ghost use Prim.Native.Nat.{_≤_};
+ghost use lib.IntN.{natAbs};
+ghost use Rattle.shape.specs.Verdicts.{Says};
+ghost use Rattle.exact.specs.Grid.{narrow, Narrow};
+
+// The number `narrow` of crate `exact`'s specs/Grid.antt.
+const NARROW: i32 = 524_288;
+
+// Whether a number is.
+fn is_small(x: i32) -> bool
+    ensures { λ r. ⌜ Says r (natAbs x ≤ narrow) ⌝ }
+{
+    (-NARROW <= x) & (x <= NARROW)
+}
+
+// Whether all numbers of a list are.
+pub fn is_narrow(numbers: &[i32]) -> bool
+    ensures { λ r. ⌜ Says r (Narrow (now (numbers .entry))) ⌝ }
+{
+    let mut i: usize = 0;
+    while i < numbers.len() {
+        if !is_small(numbers[i]) {
+            return false;
+        }
+        i += 1;
+    }
+    true
+}
