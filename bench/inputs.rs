@@ -15,14 +15,18 @@ mod surfaces;
 
 use crate::ordinary::{has_area, GRID, NARROW, TRIANGLE_NUMBERS};
 use crate::random::Random;
-use crate::scaling::{as_it_is, on_both_scales, scaled_number, Input};
+use crate::scaling::{as_it_is_and_times, on_both_scales, scaled_number, Input};
 
+/// The kinds of pairs: random, small and spread, on a tiny grid.
+pub const KINDS: usize = 3;
 /// This many of each kind.
 const PAIRS: usize = 20_000;
 /// How far the corners of a small triangle may lie from its middle, in each coordinate.
 const SMALL_HALF: i32 = 1_000;
 /// The tiny grid goes from 0 to this.
 const TINY_END: i32 = 4;
+/// So many times as large it goes to the end of the grid: 2^28.
+const TINY_SCALE: i32 = GRID / TINY_END;
 
 type List = [i32; TRIANGLE_NUMBERS];
 
@@ -44,14 +48,19 @@ impl<const N: usize> Pair<N> {
 /// Pairs of one kind, of which no triangle is flat.
 pub type PairsInput<const N: usize> = Input<Vec<Pair<N>>>;
 
-pub fn timed<const N: usize>(seeds: [u64; 3]) -> Vec<PairsInput<N>> {
+/// Each kind on both scales.
+pub fn timed<const N: usize>(seeds: [u64; KINDS]) -> Vec<PairsInput<N>> {
     let random = pairs_with_area(seeds[0], |random| box_pair(random, -NARROW, NARROW));
     let small = pairs_with_area(seeds[1], small_pair);
     let tiny = pairs_with_area(seeds[2], tiny_pair);
     let scaled = |pairs: &[Pair<N>], scale| pairs.iter().map(|pair| pair.scaled(scale)).collect();
     let mut inputs = on_both_scales("random", |scale| scaled(&random, scale));
     inputs.extend(on_both_scales("small and spread", |scale| scaled(&small, scale)));
-    inputs.extend(as_it_is("a tiny grid, many touching or in one plane", tiny));
+    inputs.extend(as_it_is_and_times(
+        "a tiny grid, many touching or in one plane",
+        TINY_SCALE,
+        |scale| scaled(&tiny, scale),
+    ));
     inputs
 }
 

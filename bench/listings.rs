@@ -19,7 +19,7 @@ const START: usize = 3;
 
 type Contender = fn(&[i32], &[i32], &mut [u32], usize) -> Answer;
 /// The two lists of a call.
-type Lists<'a> = [&'a [i32]; 2];
+pub type Lists<'a> = [&'a [i32]; 2];
 /// The numbers that a call writes: two for each pair that it finds.
 type Found = Vec<u32>;
 
@@ -175,7 +175,7 @@ fn timed_ratio(input: &Input<Listed>, found: &[Found]) -> f64 {
 }
 
 /// The calls of an input are alike, so the first tells how long their lists are.
-fn told_calls(calls: &[Lists]) -> String {
+pub fn told_calls(calls: &[Lists]) -> String {
     let [first, second] = calls[0].map(triangles);
     let told = format!("{first} by {second} triangles");
     match calls.len() {

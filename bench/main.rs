@@ -4,25 +4,27 @@
 //! ("sheets"). `zg_pair_bytes` ("bytes") is timed beside `zg_pair`, on the same pairs. A time is the
 //! processor's that the process takes.
 //!
-//! The ordinary code has 128-bit numbers, since a determinant on the grid does not fit 64 bits. Inputs whose
-//! size does not belong to their kind are timed twice: within 2^19, and the same scaled to the whole grid.
+//! The ordinary code has 128-bit numbers, since a determinant on the grid does not fit 64 bits. Most inputs
+//! are timed twice: within 2^19, and the same scaled to the whole grid.
 //! Within 2^19 the ordinary test and the ordinary listing are timed with 64-bit numbers too, to show what is
 //! due to the width of the numbers alone; beyond it these would overflow, and are not asked. A plate that
 //! recounts all pairs at each call is timed too, to show what keeping the count gains. With --check nothing
 //! is timed: the inputs of the bytes, the listings and the sheets and a part of the plates' are compared.
-//! Scaling an input may change none of its answers, and that is compared as well.
+//! Scaling an input may change none of its answers, and that is compared as well. With "paths" nothing is
+//! timed either, and the library is not asked: it is counted how the signs are told.
 //!
 //! `bench/run` says how it is called, and which arguments go together.
 //!
 //! Exit status: 0 all agree; 1 two answers differ, or a ratio of the door is above what --at-most
 //! allows for the pairs and the segments, or with --goals above the goal of the pairs, the bytes, a
-//! listing, a plate or a sheet; 2 bad arguments.
+//! listing, a plate or a sheet, or an estimate is farther from its side than it may be; 2 bad arguments.
 
 mod bytes;
 mod door;
 mod inputs;
 mod listings;
 mod ordinary;
+mod paths;
 mod plates;
 #[allow(dead_code)] // the second program asks it for more
 #[path = "../tests/second/random.rs"]
@@ -40,6 +42,8 @@ use timing::say;
 struct Asked {
     /// Nothing is timed.
     check: bool,
+    /// Nothing is timed, and the paths to the signs are counted.
+    paths: bool,
     pairs: bool,
     bytes: bool,
     segments: bool,
@@ -62,6 +66,9 @@ fn main() -> ExitCode {
     };
     if asked.check {
         return status(compared());
+    }
+    if asked.paths {
+        return status(told(paths::count()));
     }
     // All are run even if one fails, and each says its last line as soon as it has it.
     let mut all_well = true;
@@ -117,6 +124,7 @@ fn read_arguments(mut arguments: impl Iterator<Item = String>) -> Result<Asked, 
             "listings" => asked.listings = true,
             "plates" => asked.plates = true,
             "sheets" => asked.sheets = true,
+            "paths" => asked.paths = true,
             "--at-most" => asked.at_most = Some(read_ratio(&arguments.next().unwrap_or_default())?),
             "--goals" => asked.goals = true,
             "--check" => asked.check = true,

@@ -1,5 +1,6 @@
-//! The two scales on which an input is timed: within NARROW, where 64-bit code can be timed beside it, and
-//! with every number SCALE times as large, up to the ends of the grid.
+//! The two scales on which an input is timed: as it is drawn, where 64-bit code can be timed beside it, and
+//! with every number so many times as large, up to the ends of the grid. Most inputs are drawn within NARROW,
+//! and those are SCALE times as large then; a tiny grid has a factor of its own.
 //!
 //! Whether triangles have a point in common, whether a point is inside a shell and whether a move stays on
 //! the grid that grows with it does not change by that, and neither may an answer.
@@ -13,28 +14,38 @@ pub const SCALE: i32 = GRID / NARROW;
 pub struct Input<Content> {
     pub name: String,
     pub content: Content,
-    /// Whether it is the input before it, with every number SCALE times as large.
+    /// Whether it is the input before it, with every number so many times as large.
     pub is_scaled: bool,
 }
 
-/// The input on both scales; `at_scale` makes its content of the factor.
+/// An input that is drawn within NARROW, on both scales; `at_scale` makes its content of the factor.
 pub fn on_both_scales<Content>(name: &str, at_scale: impl Fn(i32) -> Content) -> Vec<Input<Content>> {
-    vec![
-        Input {
-            name: format!("{name}, within 2^{}", NARROW.ilog2()),
-            content: at_scale(1),
-            is_scaled: false,
-        },
-        Input {
-            name: format!("{name}, scaled to 2^{}", GRID.ilog2()),
-            content: at_scale(SCALE),
-            is_scaled: true,
-        },
-    ]
+    let drawn = format!("{name}, within 2^{}", NARROW.ilog2());
+    let scaled = format!("{name}, scaled to 2^{}", GRID.ilog2());
+    drawn_and_scaled([drawn, scaled], SCALE, at_scale)
 }
 
-/// An input that is timed as it is: a tiny grid would be none if it were scaled, and what has no coordinates
-/// can't be.
+/// An input on both scales of which the larger is so many times the other, a power of two.
+pub fn as_it_is_and_times<Content>(name: &str, scale: i32, at_scale: impl Fn(i32) -> Content) -> Vec<Input<Content>> {
+    let scaled = format!("{name}, times 2^{}", scale.ilog2());
+    drawn_and_scaled([name.into(), scaled], scale, at_scale)
+}
+
+fn drawn_and_scaled<Content>(
+    [drawn, scaled]: [String; 2],
+    scale: i32,
+    at_scale: impl Fn(i32) -> Content,
+) -> Vec<Input<Content>> {
+    let input = |name, scale, is_scaled| Input {
+        name,
+        content: at_scale(scale),
+        is_scaled,
+    };
+    vec![input(drawn, 1, false), input(scaled, scale, true)]
+}
+
+/// An input that is timed as it is: what has no coordinates can't be scaled, and what moves about on a tiny grid
+/// would move off the grid if it were.
 pub fn as_it_is<Content>(name: &str, content: Content) -> Vec<Input<Content>> {
     vec![Input {
         name: name.into(),

@@ -3,9 +3,9 @@
 use std::io::Write;
 use std::time::Duration;
 
-/// The highest ratio to the ordinary 128-bit code that an input should have where sums of two words decide and
-/// the goal from before the grid grew is out of reach: what that was is in docs/LANDINGS.md.
-pub const TWO_WORDS_GOAL: f64 = 2.0;
+/// The highest ratios to the ordinary 128-bit code that the door should have on an input: on the smaller scale, where 64
+/// bits hold more of the sums, and on the larger, where an estimate in doubles spares most sums of two words.
+pub type Goals = [f64; 2];
 /// What stands for the time of 64-bit code where it would overflow, and so is not asked.
 const NOT_ASKED: f64 = f64::INFINITY;
 

@@ -2,41 +2,47 @@
 //! ordinary tests, and times them.
 
 use crate::door;
-use crate::inputs::{self, Pair, PairsInput};
+use crate::inputs::{self, Pair, PairsInput, KINDS};
 use crate::ordinary::{self, is_narrow, Answer, SEGMENT_NUMBERS, TRIANGLE_NUMBERS};
 use crate::scaling::compare_scaled;
-use crate::timing::{best_of, nanoseconds_each, narrow_time, say, told_narrow, TWO_WORDS_GOAL};
+use crate::timing::{best_of, nanoseconds_each, narrow_time, say, told_narrow, Goals};
 use std::hint::black_box;
 
+/// The goals of the pairs, kind by kind. Of the tiny grid many sides are zero: where it is scaled, sums of two words tell
+/// them, after estimates that are made in vain.
+const PAIRS_GOALS: [Goals; KINDS] = [[0.5; 2], [0.5; 2], [0.5, 0.85]];
+/// What is timed without goals has such as are always reached, and none is printed.
+const NO_GOALS: [Goals; KINDS] = [[f64::INFINITY; 2]; KINDS];
 pub const ROUNDS: usize = 101;
 /// The pairs that are timed, and the faulty ones, come from these seeds.
-pub const PAIRS_SEEDS: [u64; 3] = [1, 2, 3];
+pub const PAIRS_SEEDS: [u64; KINDS] = [1, 2, 3];
 pub const FAULTY_PAIRS_SEED: u64 = 4;
 
 /// The last line to print. It is an error where two answers differ, or a ratio is higher than is allowed
-/// or, where the goal has to be reached, than the goal.
+/// or, where each goal has to be reached, than its goal.
 pub fn pairs(at_most: f64, goals: bool) -> Result<String, String> {
     let call = Call {
         name: "pair",
-        goal: Some(TWO_WORDS_GOAL),
+        goals: PAIRS_GOALS,
         door: door::pair,
         wide: ordinary::pair::<i128>,
         narrow: ordinary::pair::<i64>,
     };
-    let limit = if goals { at_most.min(TWO_WORDS_GOAL) } else { at_most };
-    call.compare_and_time::<TRIANGLE_NUMBERS>(PAIRS_SEEDS, FAULTY_PAIRS_SEED, limit)
+    let ratios = call.compare_and_time::<TRIANGLE_NUMBERS>(PAIRS_SEEDS, FAULTY_PAIRS_SEED)?;
+    call.last_line(&ratios, at_most, goals)
 }
 
-/// The same of the segments, which have no goal.
+/// The same of the segments, which have no goals.
 pub fn segments(at_most: f64) -> Result<String, String> {
     let call = Call {
         name: "segment",
-        goal: None,
+        goals: NO_GOALS,
         door: door::segment,
         wide: ordinary::segment::<i128>,
         narrow: ordinary::segment::<i64>,
     };
-    call.compare_and_time::<SEGMENT_NUMBERS>([16, 17, 18], 19, at_most)
+    let ratios = call.compare_and_time::<SEGMENT_NUMBERS>([16, 17, 18], 19)?;
+    call.last_line(&ratios, at_most, false)
 }
 
 /// A call of the door, and the ordinary test that does the same, with 128-bit and with 64-bit numbers. The
@@ -44,7 +50,7 @@ pub fn segments(at_most: f64) -> Result<String, String> {
 /// own, so that none is called by way of a pointer.
 struct Call<Door, Wide, Narrow> {
     name: &'static str,
-    goal: Option<f64>,
+    goals: [Goals; KINDS],
     door: Door,
     wide: Wide,
     narrow: Narrow,
@@ -55,13 +61,8 @@ trait Test: Fn(&[i32], &[i32]) -> Answer {}
 impl<F: Fn(&[i32], &[i32]) -> Answer> Test for F {}
 
 impl<Door: Test, Wide: Test, Narrow: Test> Call<Door, Wide, Narrow> {
-    /// The first shape of a pair has N numbers.
-    fn compare_and_time<const N: usize>(
-        &self,
-        seeds: [u64; 3],
-        faulty_seed: u64,
-        limit: f64,
-    ) -> Result<String, String> {
+    /// The door's ratio on each input, if all contenders agree. The first shape of a pair has N numbers.
+    fn compare_and_time<const N: usize>(&self, seeds: [u64; KINDS], faulty_seed: u64) -> Result<Vec<f64>, String> {
         let inputs = inputs::timed::<N>(seeds);
         let agreed = inputs.iter().map(|input| self.agreed_values(&input.content));
         let values: Vec<Vec<u64>> = agreed.collect::<Result<_, _>>()?;
@@ -69,15 +70,24 @@ impl<Door: Test, Wide: Test, Narrow: Test> Call<Door, Wide, Narrow> {
         for [first, second] in inputs::faulty::<N>(faulty_seed) {
             self.agreed_answer(&first, &second)?;
         }
-        let ratios = inputs
-            .iter()
-            .zip(values)
-            .map(|(input, values)| self.timed_ratio(input, values.iter().sum()));
-        let highest = ratios.fold(0.0, f64::max);
+        let goals = self.goals.as_flattened();
+        assert_eq!(inputs.len(), goals.len(), "each kind is timed on two scales");
+        let goaled = inputs.iter().zip(values).zip(goals);
+        let ratios = goaled.map(|((input, values), &goal)| self.timed_ratio(input, values.iter().sum(), goal));
+        Ok(ratios.collect())
+    }
+
+    fn last_line(&self, ratios: &[f64], at_most: f64, goals: bool) -> Result<String, String> {
+        let highest = ratios.iter().copied().fold(0.0, f64::max);
+        let judged = ratios.iter().zip(self.goals.as_flattened());
+        let missed = judged.filter(|(ratio, goal)| ratio > goal).count();
         let name = self.name;
         let line = format!("all {name} answers agree; the highest ratio of the door is {highest:.3}");
-        if highest > limit {
-            return Err(format!("{line}, and at most {limit} is allowed"));
+        if highest > at_most {
+            return Err(format!("{line}, and at most {at_most} is allowed"));
+        }
+        if goals && missed > 0 {
+            return Err(format!("{line}; {missed} of {} goals are not reached", ratios.len()));
         }
         Ok(line)
     }
@@ -106,7 +116,7 @@ impl<Door: Test, Wide: Test, Narrow: Test> Call<Door, Wide, Narrow> {
     }
 
     /// Times one input, prints its line and gives the door's ratio.
-    fn timed_ratio<const N: usize>(&self, input: &PairsInput<N>, meeting: u64) -> f64 {
+    fn timed_ratio<const N: usize>(&self, input: &PairsInput<N>, meeting: u64, goal: f64) -> f64 {
         let pairs = &input.content;
         let are_narrow = pairs
             .iter()
@@ -119,7 +129,11 @@ impl<Door: Test, Wide: Test, Narrow: Test> Call<Door, Wide, Narrow> {
             ]
         });
         let ratio = door / wide;
-        let told_goal = self.goal.map(|goal| format!(", goal {goal}")).unwrap_or_default();
+        let told_goal = if goal.is_finite() {
+            format!(", goal {goal}")
+        } else {
+            String::new()
+        };
         say(&format!(
             "{}: door {door:.1} ns a {}, 128-bit {wide:.1} ns, ratio {ratio:.3}{told_goal} ({}; meeting {:.0} in 100)",
             input.name,

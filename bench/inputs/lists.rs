@@ -1,26 +1,37 @@
 //! The lists: eleven kinds that are timed, each in one call, and two of them in many short calls too, those
-//! of random triangles each from a seed of its own; and faulty ones. All that are timed but the tiny grid
-//! are timed on both scales.
+//! of random triangles each from a seed of its own; and faulty ones. All that are timed are timed on both
+//! scales: the tiny grid as it is and with every number 2^28 times as large, the others within NARROW and scaled
+//! from there.
 
 use super::overlapping::{crossing_triangle, layers};
 use super::surfaces::{cube, sphere, with_slivers};
-use super::{box_list, faulty_shape, spread, List, PAIRS, SMALL_HALF, TINY_END};
+use super::{box_list, faulty_shape, spread, List, PAIRS, SMALL_HALF, TINY_END, TINY_SCALE};
 use crate::ordinary::listing::MOST_TRIANGLES;
 use crate::ordinary::{has_area, NARROW, TRIANGLE_NUMBERS};
 use crate::random::Random;
-use crate::scaling::{as_it_is, on_both_scales, scaled, Input};
-use crate::timing::TWO_WORDS_GOAL;
+use crate::scaling::{as_it_is_and_times, on_both_scales, scaled, Input};
+use crate::timing::Goals;
 
 /// Where few pairs have boxes with a point in common, so that the pair test has little to decide.
-const SPARSE_GOAL: f64 = 0.012;
+const SPARSE_GOALS: Goals = [0.012; 2];
 /// Where few pairs have, and what is near in space is not near in the list.
-const SHUFFLED_GOAL: f64 = 0.015;
+const SHUFFLED_GOALS: Goals = [0.015; 2];
 /// Where few pairs have, but for those of the largest triangles.
-const SIZES_GOAL: f64 = 0.05;
-/// Where most pairs have, in calls of 64 by 64.
-const SHORT_DENSE_GOAL: f64 = 0.6;
-/// As SPARSE_GOAL, where the calls are short, so that what is done once a list weighs more.
-const SHORT_SPARSE_GOAL: f64 = 0.25;
+const SIZES_GOALS: Goals = [0.03; 2];
+/// Where most pairs have.
+const RANDOM_GOALS: Goals = [0.3; 2];
+/// Where most pairs have, and many sides are zero, which no estimate tells.
+const TINY_GOALS: Goals = [0.35, 0.4];
+/// Where all pairs have, and more than half of them meet.
+const CROSSING_GOALS: Goals = [0.42, 0.23];
+/// Where all pairs have, and the first plane that is asked tells each of them apart.
+const LAYERS_GOALS: Goals = [0.36, 0.2];
+/// As RANDOM_GOALS, in calls of 16 by 16, so that what is done once a list weighs more.
+const CALLS_OF_16_GOALS: Goals = [0.6, 0.48];
+/// The same in calls of 64 by 64.
+const CALLS_OF_64_GOALS: Goals = [0.39, 0.25];
+/// As SPARSE_GOALS, in calls of 1 by 1,024, so that what is done once a list weighs most.
+const CALLS_OF_ONE_GOALS: Goals = [0.25; 2];
 
 /// Half of a size goes from 2 to the first power to 2 to the second, which is NARROW: from some ten steps of
 /// the grid to all within NARROW, five decades.
@@ -49,64 +60,63 @@ impl Listed {
 }
 
 pub fn timed() -> Vec<Input<Listed>> {
-    let mut inputs: Vec<Input<Listed>> = scaled_kinds()
+    let mut inputs: Vec<Input<Listed>> = kinds_within_narrow()
         .into_iter()
-        .flat_map(|(name, lists, goal)| in_pieces(name, &lists, [MOST_TRIANGLES; 2], goal))
+        .flat_map(|(name, lists, goals)| in_pieces(name, &lists, [MOST_TRIANGLES; 2], goals))
         .collect();
-    let tiny = Listed {
-        lists: with_area(7, tiny_triangle),
-        piece: [MOST_TRIANGLES; 2],
-        goal: TWO_WORDS_GOAL,
-    };
-    inputs.extend(as_it_is("a tiny grid, many touching or in one plane", tiny));
+    inputs.extend(as_it_is_and_times(
+        "a tiny grid, many touching or in one plane",
+        TINY_SCALE,
+        listed(&with_area(7, tiny_triangle), [MOST_TRIANGLES; 2], TINY_GOALS),
+    ));
     inputs.extend(in_short_calls());
     inputs
 }
 
 /// The kinds that are timed in one call, but for the tiny grid.
-fn scaled_kinds() -> [(&'static str, Lists, f64); 10] {
+fn kinds_within_narrow() -> [(&'static str, Lists, Goals); 10] {
     let spheres = [[0, 0, 0], [170_000, 110_000, 70_000]].map(|middle| sphere(middle, 250_000));
     let cubes = [[0, 0, -180_000], [35_000, 52_000, 180_000]].map(|middle| cube(middle, 20_000));
     let slivers = spheres.each_ref().map(|list| with_slivers(list));
     let [shuffled_spheres, shuffled_cubes] = [shuffled(20, &spheres), shuffled(21, &cubes)];
     [
-        ("random", random_lists(), TWO_WORDS_GOAL),
-        ("small triangles, spread", small_lists(), SPARSE_GOAL),
-        ("two spheres that overlap", spheres, SPARSE_GOAL),
-        ("a cube resting on another", cubes, SPARSE_GOAL),
+        ("random", random_lists(), RANDOM_GOALS),
+        ("small triangles, spread", small_lists(), SPARSE_GOALS),
+        ("two spheres that overlap", spheres, SPARSE_GOALS),
+        ("a cube resting on another", cubes, SPARSE_GOALS),
         (
             "slivers: the spheres, one triangle in ten a segment or a point",
             slivers,
-            SPARSE_GOAL,
+            SPARSE_GOALS,
         ),
-        ("the spheres in shuffled order", shuffled_spheres, SHUFFLED_GOAL),
-        ("the cubes in shuffled order", shuffled_cubes, SHUFFLED_GOAL),
+        ("the spheres in shuffled order", shuffled_spheres, SHUFFLED_GOALS),
+        ("the cubes in shuffled order", shuffled_cubes, SHUFFLED_GOALS),
         (
             "all boxes overlapping, crossing",
             with_area(22, crossing_triangle),
-            TWO_WORDS_GOAL,
+            CROSSING_GOALS,
         ),
-        ("all boxes overlapping, in layers", layers(23), TWO_WORDS_GOAL),
+        ("all boxes overlapping, in layers", layers(23), LAYERS_GOALS),
         (
             "sizes over five decades",
             with_area(24, triangle_of_any_size),
-            SIZES_GOAL,
+            SIZES_GOALS,
         ),
     ]
 }
 
 fn in_short_calls() -> Vec<Input<Listed>> {
     let random = random_lists();
-    let short_dense = |length, goal| in_pieces("random, in short calls", &random, [length; 2], goal);
+    let short_dense = |length, goals| in_pieces("random, in short calls", &random, [length; 2], goals);
     let short_sparse = in_pieces(
         "small triangles, spread, in short calls",
         &small_lists(),
         [1, MOST_TRIANGLES],
-        SHORT_SPARSE_GOAL,
+        CALLS_OF_ONE_GOALS,
     );
     [
-        short_dense(16, TWO_WORDS_GOAL),
-        short_dense(64, SHORT_DENSE_GOAL),
+        short_dense(16, CALLS_OF_16_GOALS),
+        short_dense(64, CALLS_OF_64_GOALS),
         short_sparse,
     ]
     .into_iter()
@@ -114,12 +124,17 @@ fn in_short_calls() -> Vec<Input<Listed>> {
     .collect()
 }
 
-fn in_pieces(name: &str, lists: &Lists, piece: [usize; 2], goal: f64) -> Vec<Input<Listed>> {
-    on_both_scales(name, |scale| Listed {
+fn in_pieces(name: &str, lists: &Lists, piece: [usize; 2], goals: Goals) -> Vec<Input<Listed>> {
+    on_both_scales(name, listed(lists, piece, goals))
+}
+
+/// Makes the lists of a factor, which is 1 on the smaller scale.
+fn listed(lists: &Lists, piece: [usize; 2], goals: Goals) -> impl Fn(i32) -> Listed + '_ {
+    move |scale| Listed {
         lists: lists.each_ref().map(|list| scaled(list, scale)),
         piece,
-        goal,
-    })
+        goal: goals[usize::from(scale > 1)],
+    }
 }
 
 fn random_lists() -> Lists {

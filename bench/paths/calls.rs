@@ -1,0 +1,91 @@
+//! Which signs the pair call and the listing take of a pair of triangles, in their order. The corners p1, q1, r1 and
+//! p2, q2, r2 are document 000's.
+
+use super::sides::{sides_over, Triangle};
+use super::tally::{Tally, Way};
+
+/// How a triangle stands to the plane of another.
+enum Standing {
+    /// All of it is strictly on one side.
+    Beside,
+    /// All of it is in the plane.
+    Within,
+    /// Otherwise: one corner counts as alone on its side.
+    Across(Alone),
+}
+
+struct Alone {
+    corner: usize,
+    /// Whether that side is the negative one.
+    below: bool,
+}
+
+/// The first triangle is asked first, and the second also where the first is in its plane.
+pub fn pair_call(tally: &mut Tally, first: Triangle, second: Triangle) -> Result<(), String> {
+    let of_first = standing(tally, Way::Pair, first, second)?;
+    if matches!(of_first, Standing::Beside) {
+        return Ok(());
+    }
+    let of_second = standing(tally, Way::Pair, second, first)?;
+    if let (Standing::Across(of_first), Standing::Across(of_second)) = (of_first, of_second) {
+        last_signs(tally, Way::Pair, [first, second], [of_first, of_second])?;
+    }
+    Ok(())
+}
+
+/// A pair of a listing, whose second triangle is asked first.
+pub fn listed_pair(tally: &mut Tally, way: Way, first: Triangle, second: Triangle) -> Result<(), String> {
+    let Standing::Across(of_second) = standing(tally, way, second, first)? else {
+        return Ok(());
+    };
+    if let Standing::Across(of_first) = standing(tally, way, first, second)? {
+        last_signs(tally, way, [first, second], [of_first, of_second])?;
+    }
+    Ok(())
+}
+
+/// How a triangle stands to the plane of the other. Alone is the first corner whose side no other corner is on; if there
+/// is none, two corners are on one side, and alone is the third, which is on the plane.
+fn standing(tally: &mut Tally, way: Way, triangle: Triangle, other: Triangle) -> Result<Standing, String> {
+    let signs = tally.signs(way, sides_over(other, triangle))?;
+    let [sign, ..] = signs;
+    if signs == [sign; 3] {
+        return Ok(if sign == 0 { Standing::Within } else { Standing::Beside });
+    }
+    let is_alone = |&k: &usize| signs[k] != 0 && signs.iter().filter(|&&sign| sign == signs[k]).count() == 1;
+    let alone = match (0..3).find(is_alone) {
+        Some(corner) => Alone {
+            corner,
+            below: signs[corner] < 0,
+        },
+        None => Alone {
+            corner: (0..3).find(|&k| signs[k] == 0).expect("one corner is on the plane"),
+            below: signs.contains(&1),
+        },
+    };
+    Ok(Standing::Across(alone))
+}
+
+/// [p1,q1,p2,q2] and [p1,r1,r2,p2], where each triangle has a corner alone.
+fn last_signs(
+    tally: &mut Tally,
+    way: Way,
+    [first, second]: [Triangle; 2],
+    [of_first, of_second]: [Alone; 2],
+) -> Result<(), String> {
+    let [p1, q1, r1] = reordered(first, of_first.corner, of_second.below);
+    let [p2, q2, r2] = reordered(second, of_second.corner, of_first.below);
+    let [[one], [two]] = [sides_over([p1, q1, p2], [q2]), sides_over([p1, r1, r2], [p2])];
+    tally.signs(way, [one, two])?;
+    Ok(())
+}
+
+/// The corner that is alone comes first. Swapping the last two flips the signs of the other triangle's corners.
+fn reordered(triangle: Triangle, first_corner: usize, are_swapped: bool) -> Triangle {
+    let [p, q, r] = [0, 1, 2].map(|k| triangle[(first_corner + k) % 3]);
+    if are_swapped {
+        [p, r, q]
+    } else {
+        [p, q, r]
+    }
+}
