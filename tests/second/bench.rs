@@ -4,7 +4,7 @@
 //! pins of many kinds, and row P11 with determinants of numbers as large as the grid.
 
 pub mod byte_pairs;
-mod determinants;
+pub mod determinants;
 mod listings;
 pub mod sheets;
 pub mod stories;

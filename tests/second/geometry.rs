@@ -7,8 +7,10 @@
 
 pub mod ahead;
 pub mod axes;
+pub mod by_signs;
 pub mod clipping;
 pub mod edges;
+pub mod estimate;
 pub mod rays;
 pub mod signs;
 pub mod thin;

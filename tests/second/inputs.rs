@@ -1,12 +1,14 @@
 //! Random inputs of many kinds: tiny grids where special cases abound, the whole grid and its ends, shapes that touch
-//! or nearly do, determinants made to measure, flat shapes of every kind, every kind of bad list, triangles as bytes,
-//! stories of plates, some of them with closed shells, and job sheets, good and broken. And every pattern of ends of
-//! the grid.
+//! or nearly do, determinants made to measure or aimed at the quick estimate, flat shapes of every kind, every kind of
+//! bad list, triangles as bytes, stories of plates, some of them with closed shells, and job sheets, good and broken.
+//! And every pattern of ends of the grid.
 
+pub mod aimed;
 mod breaks;
 mod byte_pairs;
 pub mod ends;
 mod faulty;
+mod lattice;
 mod listing;
 mod measured;
 mod plane;
@@ -25,6 +27,7 @@ mod wrapping;
 pub use byte_pairs::{any_byte_pair, WRONG_LENGTHS};
 pub use faulty::LONGEST_BAD_LIST;
 pub use listing::{any_listing, tiny_listing};
+pub use measured::list_of;
 pub use plane::{any_flat_pair, any_turn, tiny_flat_pair};
 pub use sheets::{any_sheet, tiny_sheet};
 pub use space::{any_pair, any_segment, any_side, tiny_pair, tiny_segment};

@@ -1,7 +1,7 @@
 //! The second program: puts the bench rows of document 01, all patterns of ends of the grid, many random inputs, pairs
-//! of triangles in space as bytes too, many random stories of a plate and many random job sheets to the library under
-//! check, finds every answer by means of its own, and compares. With `--text` it asks nothing, but writes pairs and
-//! their answers as text.
+//! of triangles in space as bytes too, many inputs aimed at the quick estimate of request Q-7, many random stories of a
+//! plate and many random job sheets to the library under check, finds every answer by means of its own, and compares.
+//! With `--text` it asks nothing, but writes pairs and their answers as text.
 //! `tests/second/run` says how it is called.
 //!
 //! Exit status: 0 no disagreement; 1 a disagreement, a failure of the calls, or a case never met;
@@ -14,6 +14,7 @@ mod byte_pairs;
 mod call;
 mod door;
 mod ends;
+mod estimates;
 mod geometry;
 mod inputs;
 mod plates;
@@ -33,6 +34,7 @@ use random::Random;
 use std::io::Write;
 use std::process::ExitCode;
 use std::time::{SystemTime, UNIX_EPOCH};
+use tally::aimed::AimedTally;
 use tally::byte_pairs::BytePairTally;
 use tally::plates::PlateTally;
 use tally::sheets::SheetTally;
@@ -250,6 +252,7 @@ fn compare_random(door: &mut Door, settings: &Settings) -> Result<Tallies, Strin
     }
     byte_pairs.compare_many(door, settings.seed, pairs_made_of_bytes(settings))?;
     Ok(Tallies {
+        aimed: compare_aimed(door, settings)?,
         calls,
         byte_pairs: byte_pairs.tally,
         plates: compare_stories(door, settings)?,
@@ -264,6 +267,14 @@ fn pairs_made_of_bytes(settings: &Settings) -> u64 {
     } else {
         settings.pairs.div_ceil(4)
     }
+}
+
+/// A tiny run has none: their numbers are large.
+fn compare_aimed(door: &mut Door, settings: &Settings) -> Result<Option<AimedTally>, String> {
+    if settings.tiny {
+        return Ok(None);
+    }
+    estimates::compare_many(door, settings.seed, settings.pairs).map(Some)
 }
 
 fn compare_stories(door: &mut Door, settings: &Settings) -> Result<PlateTally, String> {
@@ -287,6 +298,7 @@ fn compare_sheets(door: &mut Door, settings: &Settings) -> Result<SheetTally, St
 /// The random inputs that were compared, of every kind.
 struct Tallies {
     calls: Vec<Tally>,
+    aimed: Option<AimedTally>,
     byte_pairs: BytePairTally,
     plates: PlateTally,
     sheets: SheetTally,
@@ -296,6 +308,7 @@ impl Tallies {
     fn lines(&self) -> Vec<String> {
         let lines = self.calls.iter().map(Tally::line);
         lines
+            .chain(self.aimed.iter().flat_map(AimedTally::lines))
             .chain([self.byte_pairs.line(), self.plates.line(), self.sheets.line()])
             .collect()
     }
@@ -303,12 +316,13 @@ impl Tallies {
     /// How many there were, and what they are called.
     fn compared(&self) -> Vec<(u64, &'static str)> {
         let calls = self.calls.iter().map(|tally| (tally.compared, tally.inputs()));
+        let aimed = self.aimed.iter().map(|tally| (tally.compared(), "aimed calls"));
         let others = [
             (self.byte_pairs.compared, "pairs as bytes"),
             (self.plates.stories, "stories"),
             (self.sheets.sheets, "sheets"),
         ];
-        calls.chain(others).collect()
+        calls.chain(aimed).chain(others).collect()
     }
 
     /// The cases that never came up, of a run that is large enough for them. Tiny stories and sheets lack some by their
@@ -320,6 +334,7 @@ impl Tallies {
             let calls = self.calls.iter();
             missed.extend(calls.flat_map(|tally| tally.missed(with_refusals, with_finer)));
             missed.extend(self.byte_pairs.missed(with_refusals, with_finer));
+            missed.extend(self.aimed.iter().flat_map(|tally| tally.missed(with_finer)));
         }
         if settings.stories >= STORIES_THAT_MEET_ALL_CASES && !settings.tiny {
             missed.extend(self.plates.missed(settings.stories >= STORIES_THAT_MEET_FINER_CASES));

@@ -1,5 +1,6 @@
 //! Counts of the cases met by each call, the lines that report them, and the cases that were missed.
 
+pub mod aimed;
 pub mod byte_pairs;
 mod listings;
 mod meetings;

@@ -1,6 +1,7 @@
 //! Rows of determinants made of numbers as large as the grid, with their signs as fixed numbers. Each row has the
-//! determinant in its name, as it was worked out by other means. In the last rows each of the three products that it is
-//! the sum of has 89 bits to 93.
+//! determinant in its name, as it was worked out by other means. In the rows of large products each of the three that
+//! it is the sum of has 89 bits to 93. The last rows were looked for: the quick estimate of request Q-7 is at least 3
+//! times 2^40 and has the wrong sign, which is more than chance brings.
 
 use super::{side, Row, END, MINUS_ONE, PLUS_ONE, ZERO};
 use crate::answers::Answer;
@@ -39,13 +40,93 @@ fn rows_of_powers() -> Vec<Row> {
 }
 
 fn rows_of_large_products() -> Vec<Row> {
-    let points = |points: [[i32; 3]; 4]| std::array::from_fn(|k| points[k / 3][k % 3]);
-    LARGE_PRODUCTS
-        .map(|(name, four, sign)| side(name, points(four), sign))
-        .into()
+    let points = |points: Points| std::array::from_fn(|k| points[k / 3][k % 3]);
+    let rows = LARGE_PRODUCTS.iter().chain(&FAR_OFF);
+    rows.map(|(name, four, sign)| side(name, points(*four), *sign))
+        .collect()
 }
 
-const LARGE_PRODUCTS: [(&str, [[i32; 3]; 4], Answer); 8] = [
+/// The points of the last rows.
+pub fn points_far_off() -> Vec<Points> {
+    FAR_OFF.iter().map(|(_, points, _)| *points).collect()
+}
+
+type Points = [[i32; 3]; 4];
+
+const FAR_OFF: [(&str, Points, Answer); 7] = [
+    (
+        "-1 with an estimate of 3.4 times 2^40",
+        [
+            [-1_073_625_231, 1_073_741_451, -1_073_726_490],
+            [1_073_731_132, -1_060_419_852, 1_007_448_272],
+            [952_494_354, -1_073_424_491, -227_884_611],
+            [927_734_005, -991_345_642, 229_348_692],
+        ],
+        MINUS_ONE,
+    ),
+    (
+        "-1 with an estimate of 3.2 times 2^40",
+        [
+            [1_073_385_038, -1_073_741_824, -596_479_294],
+            [-1_023_455_758, 879_128_986, -1_073_741_321],
+            [-841_191_269, 1_073_741_699, 1_073_731_936],
+            [-816_439_216, 1_048_698_179, 1_067_858_200],
+        ],
+        MINUS_ONE,
+    ),
+    (
+        "1 with an estimate of -3.2 times 2^40",
+        [
+            [-952_862_369, -1_073_728_989, 1_073_741_821],
+            [1_073_741_821, 1_073_741_824, 546_496_731],
+            [1_073_328_148, 1_059_246_379, -848_849_902],
+            [983_830_937, 964_954_870, -771_631_192],
+        ],
+        PLUS_ONE,
+    ),
+    (
+        "1 with an estimate of -3.1 times 2^40",
+        [
+            [1_073_741_824, -1_073_741_198, 1_073_722_962],
+            [-834_236_626, 814_741_485, -1_073_741_656],
+            [-1_036_136_331, 1_073_678_739, 1_073_735_083],
+            [-994_788_140, 983_491_892, -859_088_113],
+        ],
+        PLUS_ONE,
+    ),
+    (
+        "0 with an estimate of 3 times 2^40",
+        [
+            [997_666_918, -996_494_424, 1_071_758_782],
+            [-830_047_989, 392_280_349, -1_029_524_645],
+            [1_061_733_119, 365_526_029, 1_071_320_486],
+            [-894_114_190, -969_740_104, -1_029_086_349],
+        ],
+        ZERO,
+    ),
+    (
+        "0 with an estimate of -3 times 2^40",
+        [
+            [368_461_871, 1_073_741_824, -1_072_696_304],
+            [-1_073_741_824, 1_034_967_503, -725_567_287],
+            [1_000_308_402, -987_195_475, 547_388_056],
+            [-441_895_293, -1_025_969_796, 894_517_073],
+        ],
+        ZERO,
+    ),
+    (
+        "0 with an estimate of 3 times 2^40, in another plane",
+        [
+            [916_353_590, 1_065_356_872, -1_027_234_881],
+            [1_066_068_437, -398_094_855, 1_012_287_111],
+            [-889_643_418, 668_456_037, -1_053_790_017],
+            [-739_928_571, -794_995_690, 985_731_975],
+        ],
+        ZERO,
+    ),
+];
+
+const LARGE_PRODUCTS: [(&str, Points, Answer); 8] = [
     (
         "1 of large products",
         [

@@ -1,9 +1,9 @@
 //! Points of space whose determinants are made to measure out of numbers as large as the grid: 0, 1 and -1, where
 //! products of some 90 bits cancel, and the numbers about the powers of 2 at which a word of 64 bits ends.
 
+use super::lattice::{sum, Lattice};
 use super::{shuffled, Lists};
 use crate::answers::{GRID, SIDE_NUMBERS};
-use crate::geometry::signs::{cross, without};
 use crate::geometry::{minus, product, Space, Triangle};
 use crate::random::Random;
 
@@ -11,9 +11,6 @@ type Vector = [i32; 3];
 
 /// The largest number of a normal must be as large as this, so that no multiple of a step is too long.
 const LEAST_NORMAL: i128 = 1 << 40;
-/// Numbers are taken apart into digits of so many bits.
-const DIGIT_BITS: u32 = 31;
-const DIGITS: [u32; 4] = [3, 2, 1, 0];
 
 /// Four points with a determinant made to measure. The first three have the plane, or any three.
 pub fn measured_points(random: &mut Random) -> Vec<i32> {
@@ -48,7 +45,7 @@ pub fn tetrahedra_at_wall(random: &mut Random) -> [[Vector; 4]; 2] {
     );
     let with_step = |axis: usize| {
         let mut corner = tip;
-        corner[axis] += size * way * plane.normal[axis].signum();
+        corner[axis] += size * way * plane.lattice.normal[axis].signum();
         corner.map(|number| number.clamp(-i128::from(GRID), i128::from(GRID)))
     };
     let [a, b, c] = plane.corners();
@@ -89,17 +86,12 @@ pub fn is_on_grid(point: &Space) -> bool {
     point.iter().all(|number| number.abs() <= i128::from(GRID))
 }
 
-/// A plane with all its whole points, to which the two steps lead from one of them.
+/// A plane with all its whole points, to which the lattice's steps lead from one of them.
 struct Plane {
     origin: Space,
-    /// At most 2^31 in size.
-    steps: [Space; 2],
-    /// How many of each lead to the corners of a triangle.
+    /// How many of each step lead to the corners of a triangle.
     parts: [i128; 2],
-    /// The product of the steps, at most 2^63 in size. No number but 1 divides all of it.
-    normal: Space,
-    /// A step that rises by 1: that is its product with the normal.
-    rise: Space,
+    lattice: Lattice,
 }
 
 impl Plane {
@@ -110,76 +102,21 @@ impl Plane {
             let parts = random.pick(&[[1, 1], [1, 1], [1, 1], [1, 2], [2, 3], [3, 3]]);
             let step = |to: Space, parts: i128| minus(to, origin).map(|number| number / parts);
             let steps = [step(one, parts[0]), step(other, parts[1])];
-            if let Some(plane) = Plane::of(origin, steps, parts) {
-                return plane;
+            if let Some(lattice) = lattice_of(steps) {
+                return Plane { origin, parts, lattice };
             }
         }
-    }
-
-    /// Nothing where the steps don't lead to all whole points of the plane, or nearly have one direction.
-    fn of(origin: Space, steps: [Space; 2], parts: [i128; 2]) -> Option<Plane> {
-        let normal = product(steps[0], steps[1]);
-        let (divisor_of_two, [s, t]) = mixture(normal[0], normal[1]);
-        let (divisor, [u, v]) = mixture(divisor_of_two, normal[2]);
-        let mut plane = Plane {
-            origin,
-            steps,
-            parts,
-            normal,
-            rise: [0; 3],
-        };
-        if divisor != 1 || normal[plane.axis()].abs() < LEAST_NORMAL {
-            return None;
-        }
-        let of_two = plane.shortened([s, t, 0]);
-        let [one, other] = [plane.multiple(of_two, u), plane.multiple([0, 0, 1], v)];
-        plane.rise = plane.shortened(std::array::from_fn(|k| one[k] + other[k]));
-        assert!(plane.height_of(plane.rise) == 1, "a step that rises by 1 does not");
-        Some(plane)
     }
 
     /// In this order a point's determinant over them is that of its step to the last, which is the origin, with the
     /// steps to the others.
     fn corners(&self) -> Triangle {
-        let ([one, other], [parts, other_parts]) = (self.steps, self.parts);
+        let ([one, other], [parts, other_parts]) = (self.lattice.steps, self.parts);
         [
             sum(self.origin, one, parts),
             sum(self.origin, other, other_parts),
             self.origin,
         ]
-    }
-
-    fn height_of(&self, step: Space) -> i128 {
-        (0..3).map(|k| step[k] * self.normal[k]).sum()
-    }
-
-    /// Along which the plane is seen best.
-    fn axis(&self) -> usize {
-        let sizes = self.normal.map(i128::abs);
-        (0..3).max_by_key(|k| sizes[*k]).unwrap_or(0)
-    }
-
-    /// A step that rises as much, by less than one of each of the plane's steps and along the axis only.
-    ///
-    /// The step's numbers beside the axis must be at most 2^65 in size. Then the areas here are at most 2^97, how often
-    /// the steps are taken 2^57, and what they lead to 2^89.
-    fn shortened(&self, step: Space) -> Space {
-        let (axis, [one, other]) = (self.axis(), self.steps);
-        let [flat, flat_one, flat_other] = [step, one, other].map(|step| without(step, axis));
-        let whole = self.normal[axis];
-        let times = cross(flat, flat_other).div_euclid(whole);
-        let other_times = cross(flat_one, flat).div_euclid(whole);
-        sum(sum(step, one, -times), other, -other_times)
-    }
-
-    /// A step that rises so many times as much as a short one, below 2^120 times, shortened after each digit. Beside
-    /// the axis short steps are below 2^32 in size, and what is shortened is at most 2^64.
-    fn multiple(&self, step: Space, times: i128) -> Space {
-        let digit = |place: u32| times.abs() >> (DIGIT_BITS * place) & ((1 << DIGIT_BITS) - 1);
-        let multiple = DIGITS.map(digit).into_iter().fold([0; 3], |multiple: Space, digit| {
-            self.shortened(std::array::from_fn(|k| (multiple[k] << DIGIT_BITS) + digit * step[k]))
-        });
-        multiple.map(|number| number * times.signum())
     }
 
     /// A point of the grid with that height or the opposite one, beside or over the triangle; any where there is none.
@@ -193,7 +130,7 @@ impl Plane {
 
     /// The points of the grid whose steps to the origin rise by so much, about the triangle.
     fn points(&self, height: i128) -> Vec<Space> {
-        let (step, [one, other]) = (self.multiple(self.rise, height), self.steps);
+        let (step, [one, other]) = (self.lattice.rising(height), self.lattice.steps);
         let start = minus(self.origin, step);
         let counts = (0..=self.parts[0] + 1).flat_map(|i| (0..=self.parts[1] + 1).map(move |j| (i, j)));
         let points = counts.map(|(i, j)| sum(sum(start, one, i), other, j));
@@ -201,20 +138,9 @@ impl Plane {
     }
 }
 
-/// The point or step, and so many times the step.
-fn sum(to: Space, step: Space, times: i128) -> Space {
-    std::array::from_fn(|k| to[k] + times * step[k])
-}
-
-/// The largest number that divides both, and how often each must be taken to make it, by Euclid's division. None is
-/// larger than the two.
-pub fn mixture(one: i128, other: i128) -> (i128, [i128; 2]) {
-    let (mut number, mut next) = (one, other);
-    let (mut times, mut next_times) = ([1, 0], [0, 1]);
-    while next != 0 {
-        let quotient = number / next;
-        (number, next) = (next, number - quotient * next);
-        (times, next_times) = (next_times, [0, 1].map(|k| times[k] - quotient * next_times[k]));
-    }
-    (number.abs(), times.map(|times| times * number.signum()))
+/// Nothing where the steps don't lead to all whole points of their plane, or nearly have one direction.
+fn lattice_of(steps: [Space; 2]) -> Option<Lattice> {
+    let normal = product(steps[0], steps[1]);
+    let is_large = normal.iter().any(|number| number.abs() >= LEAST_NORMAL);
+    is_large.then(|| Lattice::of(steps)).flatten()
 }

@@ -1,6 +1,7 @@
 //! Triangles for the stories of a plate: a pool of good ones that have to do with each other, from which a story takes
 //! them time and again, and bad ones.
 
+use super::aimed::listings::aimed_list;
 use super::faulty::{flat_off_grid_shape, flat_shape, off_grid_number};
 use super::scenes::{any_runs, tiny_runs};
 use super::{box_list, extreme_list};
@@ -15,13 +16,14 @@ const SMALLEST: i32 = 3;
 
 /// Never empty, and nothing in it is flat or off the grid.
 pub fn any_pool(random: &mut Random) -> Vec<Corners> {
-    let list = match random.below(13) {
+    let list = match random.below(14) {
         0..=2 => smallest_list(random),
         3 => level_list(random),
         4 => extreme_list(random, TRIANGLE_NUMBERS * MOST_IN_A_POOL),
         5..=6 => cornered_list(random),
         7 => return few_of(random),
         8 => wall_list(random),
+        9 => aimed_list(random, MOST_IN_A_POOL),
         _ => {
             let (first, second) = any_runs(random, [MOST_IN_A_POOL / 2; 2]);
             [first, second].concat()

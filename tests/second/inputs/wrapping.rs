@@ -6,7 +6,8 @@
 //! have no common divisor both brackets can be any number. So the sum of the first two can be any product, and the
 //! third any other.
 
-use super::measured::{is_on_grid, list_of, mixture};
+use super::lattice::mixture;
+use super::measured::{is_on_grid, list_of};
 use super::{box_list, Lists};
 use crate::answers::{GRID, TRIANGLE_NUMBERS};
 use crate::geometry::signs::cross;
