@@ -3,9 +3,9 @@ ghost use mathlib.Core.Path.{_≡_};
 ghost use Prim.Native.Nat.{_≤_};
 ghost use lib.IntN.{natAbs};
 ghost use Rattle.shape.specs.Verdicts.{Says};
-ghost use Rattle.exact.specs.Grid.{narrow, Narrow};
+ghost use Rattle.exact.specs.Small.{narrow, Narrow};
 
-// The number `narrow` of crate `exact`'s specs/Grid.antt.
+// The number `narrow` of crate `exact`'s specs/Small.antt.
 const NARROW: i32 = 524_288;
 
 // Whether a number is.

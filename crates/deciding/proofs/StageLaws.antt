@@ -12,7 +12,7 @@ use lib.ListN.{length, getD, take, drop, set, length-set}
 use lib.Pow.{pow-pos}
 use lib.Seq.{getD-drop, getD-set-same, getD-set-other}
 use mir.Val.{boolByte}
-use Rattle.exact.specs.Grid.{Narrow, BothNarrow}
+use Rattle.exact.specs.Small.{Narrow, BothNarrow}
 use Rattle.kernel.specs.Standings.{SeemToMeet}
 use Rattle.words.specs.Bits.{bit, Lowest}
 use Rattle.words.proofs.LowestLaws.{lowest-is-set, others-stay}

@@ -13,7 +13,7 @@ use words::ones_of;
 ghost use mathlib.Core.Path.{_≡_};
 ghost use Prim.Native.Nat.{_*_, _/_, _≤_, _<_};
 ghost use lib.ListN.{length};
-ghost use Rattle.exact.specs.Grid.{Narrow, BothNarrow};
+ghost use Rattle.exact.specs.Small.{Narrow, BothNarrow};
 ghost use Rattle.words.specs.Spans.{firstOf, span};
 ghost use Rattle.boxes.specs.Triangles.{triangles, nine};
 ghost use Rattle.boxes.specs.Boxes.{Sound, Known, Prepared};

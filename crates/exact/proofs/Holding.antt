@@ -19,7 +19,7 @@ use Rattle.shape.specs.Normals.{dot, normalOf}
 use Rattle.shape.specs.Verdicts.{Says}
 use Rattle.shape.proofs.TurnSize.{turn-size}
 use Rattle.shape.proofs.VerdictLaws.{says-yes, says-both, says-same}
-use Rattle.exact.specs.Grid.{narrow}
+use Rattle.exact.specs.Small.{narrow}
 use Rattle.exact.specs.Vectors.{Sized, differenceSize, narrowSize, Holds}
 use Rattle.exact.proofs.Readings.{kept, vector}
 

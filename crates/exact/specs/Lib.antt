@@ -1,3 +1,4 @@
--- The grid and what a checked list is (Grid), and the vocabulary of the determinants (Vectors).
+-- The grid and what a checked list is (Grid), lists of small numbers (Small), and the vocabulary of the determinants (Vectors).
 pub mod Grid
+pub mod Small
 pub mod Vectors

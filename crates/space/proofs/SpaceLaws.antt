@@ -20,7 +20,8 @@ use Rattle.shape.proofs.FlatLaws.{is-flat}
 use Rattle.shape.proofs.VerdictLaws.{says-fixed}
 use Rattle.shape.proofs.Planes.{side-by-normal}
 use Rattle.shape.proofs.Dropping.{axis-says}
-use Rattle.exact.specs.Grid.{limit, narrow, Ready, Narrow}
+use Rattle.exact.specs.Grid.{limit, Ready}
+use Rattle.exact.specs.Small.{narrow, Narrow}
 use Rattle.exact.specs.Vectors.{spatial, Sized, minorSize, narrowSize, Holds, normalIn}
 use Rattle.plane.specs.Planes.{PlaneAt, SizedTriangle}
 use Rattle.space.specs.Spaces.{SpaceAt, SizedSpace, IsNormal, ofSpace, ofSpaces, ofList, turnsIn, swapIn, toldStanding, Numbered, Stands, firstPlace, secondPlace, thirdPlace, InOrder, lastSignsBy}

@@ -13,7 +13,7 @@ use Rattle.shape.specs.Normals.{normalOf}
 use Rattle.shape.specs.SpaceTest.{Standing, beside, within, alone, standing, placed, lastSigns}
 use Rattle.estimates.specs.Doubles.{rough, planeOf, farAbove, farBelow}
 use Rattle.estimates.specs.declared.Plane.{Plane}
-use Rattle.exact.specs.Grid.{narrow}
+use Rattle.exact.specs.Small.{narrow}
 use Rattle.exact.specs.Vectors.{spatial, Sized, minorSize}
 use Rattle.exact.specs.declared.determinant.SpacePoint.{SpacePoint}
 use Rattle.space.specs.declared.meeting.SpaceTriangle.{SpaceTriangle}

@@ -17,7 +17,8 @@ ghost use Prim.Native.Nat.{_≤_};
 ghost use Rattle.shape.specs.Signs.{row};
 ghost use Rattle.shape.specs.Normals.{normalOf};
 ghost use Rattle.shape.specs.SpaceTest.{lastSigns};
-ghost use Rattle.exact.specs.Grid.{limit, Ready, BothNarrow};
+ghost use Rattle.exact.specs.Grid.{limit, Ready};
+ghost use Rattle.exact.specs.Small.{BothNarrow};
 ghost use Rattle.exact.specs.Vectors.{spatial, Sized, Holds, minorSize};
 ghost use Rattle.space.specs.Spaces.{SizedSpace, ofSpaces, Numbered, firstPlace, secondPlace, thirdPlace, InOrder, lastSignsBy, BothSized, Crosses};
 

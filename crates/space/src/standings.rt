@@ -15,7 +15,8 @@ ghost use mathlib.Core.Path.{_≡_};
 ghost use Prim.Native.Nat.{_≤_, _<_};
 ghost use Rattle.shape.specs.Signs.{row};
 ghost use Rattle.shape.specs.SpaceTest.{pattern};
-ghost use Rattle.exact.specs.Grid.{limit, Ready, BothNarrow};
+ghost use Rattle.exact.specs.Grid.{limit, Ready};
+ghost use Rattle.exact.specs.Small.{BothNarrow};
 ghost use Rattle.exact.specs.Vectors.{spatial, Holds, normalIn, planeIn};
 ghost use Rattle.space.specs.Spaces.{SizedSpace, IsNormal, IsPlaneOf, ofSpaces, ofLists, Stands, sure, sureLevel, Guesses};
 

@@ -7,7 +7,7 @@ use native.Mathlib.Omega.{arith}
 use native.Mathlib.Decide.{ℕ-discrete}
 use lib.IntN.{ℤ, pos, natAbs}
 use lib.ListN.{length, getD}
-use Rattle.exact.specs.Grid.{narrow, Narrow}
+use Rattle.exact.specs.Small.{narrow, Narrow}
 use Rattle.shape.proofs.VerdictLaws.{says-yes, says-no}
 use Rattle.shape.specs.Verdicts.{Says}
 use borrow.Author.Needs.{needs, sfits-of}
