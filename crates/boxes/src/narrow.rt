@@ -15,16 +15,18 @@ fn is_small(x: i32) -> bool
     (-NARROW <= x) & (x <= NARROW)
 }
 
-// Whether all numbers of a list are.
+// Whether all numbers of a list are. No number ends the loop before its time: most lists either are small throughout or are told by a whole look in
+// little time, and without an exit the compiler looks at several numbers at once.
 pub fn is_narrow(numbers: &[i32]) -> bool
     ensures { λ r. ⌜ Says r (Narrow (now (numbers .entry))) ⌝ }
 {
+    let mut narrow = true;
     let mut i: usize = 0;
     while i < numbers.len() {
         if !is_small(numbers[i]) {
-            return false;
+            narrow = false;
         }
         i += 1;
     }
-    true
+    narrow
 }
