@@ -4,7 +4,6 @@ use estimates::Plane;
 use exact::SpacePoint;
 use exact::is_narrow;
 use exact::plane_at;
-use exact::space_point;
 use plane::plane_triangle;
 use plane::planes_meet;
 use space::crossing;
@@ -34,13 +33,7 @@ pub fn segment_meets_triangle(first: &[i32], second: &[i32]) -> bool
     requires { ⌜ Ready 6 (now first) × Ready 9 (now second) ⌝ }
     ensures { λ r. ⌜ Judges 3 2 3 (now (first .entry)) (now (second .entry)) r ⌝ }
 {
-    let t = space_triangle(second);
-    segment_meets_any(
-        space_point(first, 0),
-        space_point(first, 3),
-        t,
-        normal_of(t),
-    )
+    segment_meets_any(&first[..], &second[..])
 }
 
 // ---- two triangles in space, nine numbers each, which may be flat, in stages

@@ -1,5 +1,5 @@
--- The vocabulary of the leaves in src/meeting.rt: triangles of space as the code holds them, and the decisions of crate `shape`
--- (specs/SpaceTest.antt) on their corners.
+-- The vocabulary of the tests in space: triangles as the code holds them and as lists, segments as lists, and the decisions of crate `shape`
+-- (specs/SpaceTest.antt) on their corners and ends.
 use mathlib.Core.Path.{_≡_}
 use mathlib.Core.Bool.{Bool, true, _||_}
 use mathlib.Core.List.{List}
@@ -10,7 +10,7 @@ use lib.IntN.{ℤ}
 use mir.Val.{boolByte}
 use Rattle.shape.specs.Points.{Point, pointAt}
 use Rattle.shape.specs.Normals.{normalOf}
-use Rattle.shape.specs.SpaceTest.{Standing, beside, within, alone, standing, placed, lastSigns}
+use Rattle.shape.specs.SpaceTest.{level, Standing, beside, within, alone, standing, placed, lastSigns}
 use Rattle.estimates.specs.Doubles.{rough, planeOf, farAbove, farBelow}
 use Rattle.estimates.specs.declared.Plane.{Plane}
 use Rattle.exact.specs.Small.{narrow}
@@ -37,6 +37,14 @@ ofList f l = f (pointAt 3 0 l) (pointAt 3 3 l) (pointAt 3 6 l)
 
 abbrev pub ofLists : {X : Type 0} → ((p1 q1 r1 p2 q2 r2 : Point) → X) → List ℤ → List ℤ → X
 ofLists f k l = ofList (ofList f k) l
+
+-- A function of a segment's ends and a triangle's corners, of their lists of six numbers and nine.
+abbrev pub ofSegment : {X : Type 0} → ((p q a b c : Point) → X) → List ℤ → List ℤ → X
+ofSegment f k l = ofList (f (pointAt 3 0 k) (pointAt 3 3 k)) l
+
+-- The levels of p and q over the plane of a, b, c, read as one number: 0 and 8 where both are strictly on one side, 4 where both are on the plane.
+abbrev pub endsOver : (p q a b c : Point) → ℕ
+endsOver p q a b c = 3 * level a b c p + level a b c q
 
 -- No coordinate of a corner is larger than n, whatever its sign.
 pub record SizedSpace (n : ℕ) (t : SpaceTriangle) : Type 0 where

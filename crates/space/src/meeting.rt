@@ -1,24 +1,20 @@
-// The tests in space on machine signs: the decisions of crate shape's specs/SpaceTest.antt, sign by sign, on shapes of the grid. What is off the grid
-// was refused before.
+// Triangles of space on the grid, their normals, and two of them in one plane: a decision of crate shape's specs/SpaceTest.antt. What is off the grid was
+// refused before.
 use exact::PlanePoint;
 use exact::SpacePoint;
-use exact::level_at;
-use exact::level_over;
 use exact::normal_at;
-use exact::plane_at;
 use exact::space_point;
 use plane::PlaneTriangle;
 use plane::planes_meet;
-use plane::segment_meets_plane;
 ghost use mathlib.Core.Path.{_≡_};
 ghost use lib.Dec.{eqb};
 ghost use Rattle.shape.specs.Points.{pointAt};
 ghost use Rattle.shape.specs.Normals.{axisOf};
-ghost use Rattle.shape.specs.SpaceTest.{level, without, inPlaneTest, pastNoEdge, segmentSpaceTest};
+ghost use Rattle.shape.specs.SpaceTest.{without, inPlaneTest};
 ghost use Rattle.exact.specs.Grid.{limit, Ready};
 ghost use Rattle.exact.specs.Vectors.{planar, spatial, Sized, minorSize};
 ghost use Rattle.plane.specs.Planes.{PlaneAt};
-ghost use Rattle.space.specs.Spaces.{SpaceAt, SizedSpace, IsNormal, ofSpace, ofSpaces};
+ghost use Rattle.space.specs.Spaces.{SpaceAt, SizedSpace, IsNormal, ofSpaces};
 
 // A triangle of space.
 pub struct SpaceTriangle {
@@ -63,7 +59,8 @@ pub fn without_coordinate(k: u32, a: SpacePoint) -> PlanePoint
     PlanePoint { x: a.x, y: a.y }
 }
 
-fn dropped(k: u32, t: SpaceTriangle) -> PlaneTriangle
+// A triangle without it.
+pub fn dropped(k: u32, t: SpaceTriangle) -> PlaneTriangle
     requires { ⌜ SizedSpace limit t ⌝ }
     ensures { λ r. ⌜ PlaneAt (without k (spatial (t .p))) (without k (spatial (t .q))) (without k (spatial (t .r))) r ⌝ }
 {
@@ -75,7 +72,7 @@ fn dropped(k: u32, t: SpaceTriangle) -> PlaneTriangle
 }
 
 // A coordinate at which a normal is not zero; 3 where there is none.
-fn axis_of(n: SpacePoint) -> u32
+pub fn axis_of(n: SpacePoint) -> u32
     requires { ⌜ Sized minorSize (spatial n) ⌝ }
     ensures { λ r. ⌜ r ≡ axisOf (spatial n) ⌝ }
 {
@@ -106,60 +103,4 @@ pub fn meet_in_plane(t: SpaceTriangle, u: SpaceTriangle, n: SpacePoint) -> bool
 {
     let k = axis_of(n);
     planes_meet(dropped(k, t), dropped(k, u))
-}
-
-// ---- a segment and a triangle
-
-// The segment p q from its higher end p passes no edge of the triangle on the outside.
-fn past_no_edge(p: SpacePoint, q: SpacePoint, t: SpaceTriangle) -> bool
-    requires { ⌜ Sized limit (spatial p) × Sized limit (spatial q) × SizedSpace limit t ⌝ }
-    ensures { λ r. ⌜ r ≡ ofSpace (pastNoEdge (spatial p) (spatial q)) t ⌝ }
-{
-    if level_at(p, q, t.p, t.q) == 2 {
-        return false;
-    }
-    if level_at(p, q, t.q, t.r) == 2 {
-        return false;
-    }
-    level_at(p, q, t.r, t.p) != 2
-}
-
-// The verdict on the segment p q, whose ends are at the levels i and j over the plane of t, whose normal is n.
-fn segment_by_levels(
-    p: SpacePoint,
-    i: u32,
-    q: SpacePoint,
-    j: u32,
-    t: SpaceTriangle,
-    n: SpacePoint,
-) -> bool
-    requires { ⌜ Sized limit (spatial p) × Sized limit (spatial q) × SizedSpace limit t × IsNormal t n × (i ≡ ofSpace level t (spatial p)) × (j ≡ ofSpace level t (spatial q)) ⌝ }
-    ensures { λ r. ⌜ r ≡ ofSpace (segmentSpaceTest (spatial p) (spatial q)) t ⌝ }
-{
-    if i == j {
-        if i == 1 {
-            let k = axis_of(n); // the segment is in the triangle's plane
-            return segment_meets_plane(
-                without_coordinate(k, p),
-                without_coordinate(k, q),
-                dropped(k, t),
-            );
-        }
-        return false;
-    }
-    if i < j {
-        return past_no_edge(q, p, t);
-    }
-    past_no_edge(p, q, t)
-}
-
-// Whether a segment and a triangle that is not flat, whose normal is n, have a point in common.
-pub fn segment_meets_space(p: SpacePoint, q: SpacePoint, t: SpaceTriangle, n: SpacePoint) -> bool
-    requires { ⌜ Sized limit (spatial p) × Sized limit (spatial q) × SizedSpace limit t × IsNormal t n ⌝ }
-    ensures { λ r. ⌜ r ≡ ofSpace (segmentSpaceTest (spatial p) (spatial q)) t ⌝ }
-{
-    let plane = plane_at(t.p, t.q, t.r);
-    let at_p = level_over(t.p, n, plane, p);
-    let at_q = level_over(t.p, n, plane, q);
-    segment_by_levels(p, at_p, q, at_q, t, n)
 }

@@ -1,31 +1,68 @@
--- `wires::triangles::segment_meets_any` meets its contract: the normal tells whether the triangle is flat. Assumes nothing.
+-- `wires::triangles::segment_meets_any` meets its contract: the number of the ends tells which test decides. Assumes nothing.
 use borrow.Author.Needs.{needs}
-use Rattle.exact.proofs.Branches.{if-taken, if-left}
-use Rattle.space.proofs.SpaceLaws.{flat-by-normal}
+use mathlib.Core.Path.{_∙_}
+use Prim.Native.Nat.{_/_, _%_}
+use native.Mathlib.Omega.{arith}
+use lib.Dec.{ltb}
+use Rattle.shape.specs.Points.{pointAt}
+use Rattle.exact.proofs.Branches.{bit≤}
+use Rattle.wires.proofs.SegmentEnds.{ends-beside, ends-level, ends-through, from-higher}
 use Rattle.wires.proofs.triangles.segment_meets_any.Statement.{statement}
 use Rattle.wires.proofs.triangles.segment_meets_any.Tie as tie
 
-is-null-requires : tie.Need-is-null-requires
-is-null-requires c κs = c .pre .3 .small
-
-edge-meets-segment-requires : tie.Need-edge-meets-segment-requires
-edge-meets-segment-requires c κs = search needs
+ends-over-requires : tie.Need-ends-over-requires
+ends-over-requires c κs = search needs
 
 returns : tie.Need-returns
 returns c =
-    let t = c .before in
-    let p = t .before .before in
-    if-taken _ _ (flat-by-normal (p .args .t) (p .pre .3) (t .before .is-null .ensures)) (t .if1 .taken) (c .edge-meets-segment .ensures)
+    let k = c .before .before .args .first .now in
+    let l = c .before .before .args .second .now in
+    ends-beside (pointAt 3 0 k) (pointAt 3 3 k) (pointAt 3 0 l) (pointAt 3 3 l) (pointAt 3 6 l) (c .before .ends-over .ensures .0) (c .if1 .taken)
 
-segment-meets-space-requires : tie.Need-segment-meets-space-requires
-segment-meets-space-requires c κs = search needs
+level-segment-meets-requires : tie.Need-level-segment-meets-requires
+level-segment-meets-requires c κs = search needs
 
 returns-2 : tie.Need-returns-2
 returns-2 c =
-    let t = c .before in
-    let p = t .before .before in
-    if-left _ _ (flat-by-normal (p .args .t) (p .pre .3) (t .before .is-null .ensures)) (t .if1 .left) (c .segment-meets-space .ensures)
+    let four = c .before in
+    let ends = four .before .before in
+    let k = ends .before .args .first .now in
+    let l = ends .before .args .second .now in
+    ends-level (pointAt 3 0 k) (pointAt 3 3 k) (pointAt 3 0 l) (pointAt 3 3 l) (pointAt 3 6 l) (ends .ends-over .ensures .0) (four .if2 .taken) (c .level-segment-meets .ensures)
+
+cast-high : tie.Need-cast-high
+cast-high c = search needs
+
+mul-high : tie.Need-mul-high
+mul-high c =
+    let e = c .before .before .ends-over .result in
+    omega (arith, bit≤ (ltb (e / 3) (e % 3)))
+
+passes-requires : tie.Need-passes-requires
+passes-requires c κs =
+    let ends = c .before .before in
+    let e = ends .ends-over .result in
+    (ends .before .pre .0, ends .before .pre .1, omega (arith, bit≤ (ltb (e / 3) (e % 3))))
+
+returns-3 : tie.Need-returns-3
+returns-3 c =
+    let other = c .before in
+    let ends = other .before .before in
+    let e = ends .ends-over .result in
+    let k = ends .before .args .first .now in
+    let l = ends .before .args .second .now in
+    ends-through (pointAt 3 0 k) (pointAt 3 3 k) (pointAt 3 0 l) (pointAt 3 3 l) (pointAt 3 6 l) (ends .ends-over .ensures .0) (other .before .if1 .left) (other .if2 .left)
+    (c .passes .ensures ∙ from-higher k l (ltb (e / 3) (e % 3)))
 
 pub segment-meets-any-spec : {M : Type 1} → statement M
 segment-meets-any-spec =
-    tie.close (tie.spec is-null-requires edge-meets-segment-requires returns segment-meets-space-requires returns-2)
+    tie.close
+    (tie.spec
+    ends-over-requires
+    returns
+    level-segment-meets-requires
+    returns-2
+    cast-high
+    mul-high
+    passes-requires
+    returns-3)
