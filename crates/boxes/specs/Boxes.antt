@@ -69,16 +69,18 @@ Normals numbers normals = (i : ℕ) → i < triangles numbers → three i normal
 abbrev pub Planes : List ℤ → List Float → Type 0
 Planes numbers planes = (i : ℕ) → i < triangles numbers → IsPlane (nine i numbers) (three i planes)
 
--- A triangle on the grid, its normal, and its plane in doubles.
-pub record Known (corners normal : List ℤ) (plane : List Float) : Type 0 where
+-- A triangle on the grid, and its normal.
+pub record Known (corners normal : List ℤ) : Type 0 where
   pub ready : Ready 9 corners
   pub is-normal : normal ≡ normalIn corners
-  pub is-plane : IsPlane corners plane
 
--- A sound list, the normals of its triangles, and their planes in doubles.
-pub record Prepared (numbers normals : List ℤ) (planes : List Float) : Type 0 where
+-- A sound list, and the normals of its triangles.
+pub record Prepared (numbers normals : List ℤ) : Type 0 where
   pub sound : Sound numbers
-  pub normal-room : 3 * triangles numbers ≤ length normals
+  pub room : 3 * triangles numbers ≤ length normals
   pub normal : Normals numbers normals
-  pub plane-room : 3 * triangles numbers ≤ length planes
+
+-- The planes of its triangles in doubles.
+pub record Planned (numbers : List ℤ) (planes : List Float) : Type 0 where
+  pub room : 3 * triangles numbers ≤ length planes
   pub plane : Planes numbers planes

@@ -3,6 +3,7 @@
 use kernel::put_normal;
 use kernel::put_plane;
 ghost use mathlib.Core.Path.{_≡_};
+ghost use mathlib.Core.Bool.{false};
 ghost use Prim.Native.Nat.{_+_, _*_, _≤_, _<_};
 ghost use lib.ListN.{length};
 ghost use Rattle.boxes.specs.Triangles.{triangles};
@@ -88,7 +89,7 @@ pub fn put_normals(normals: &mut [i64], numbers: &[i32])
 }
 
 // Writes the planes of all triangles of a list, in doubles.
-pub fn put_planes(planes: &mut [f64], numbers: &[i32])
+fn put_planes(planes: &mut [f64], numbers: &[i32])
     requires { ⌜ Sound (now numbers) × (3 * triangles (now numbers) ≤ length (now planes)) ⌝ }
     ensures { λ r. ⌜ Planes (now (numbers .entry)) (now (planes .exit)) ⌝ }
 {
@@ -100,6 +101,17 @@ pub fn put_planes(planes: &mut [f64], numbers: &[i32])
         put_plane(&mut planes[plane_at..plane_at + 3], &numbers[at..at + 9]);
         i += 1;
     }
+}
+
+// The same, unless a flag says that nobody will ask for them.
+pub fn put_planes_unless(spared: bool, planes: &mut [f64], numbers: &[i32])
+    requires { ⌜ Sound (now numbers) × (3 * triangles (now numbers) ≤ length (now planes)) ⌝ }
+    ensures { λ r. ⌜ (spared ≡ false → Planes (now (numbers .entry)) (now (planes .exit))) ⌝ }
+{
+    if spared {
+        return;
+    }
+    put_planes(planes, numbers);
 }
 
 // Whether one box ends before the other begins, at coordinate c.

@@ -6,5 +6,5 @@ mod narrow;
 pub use boxes::boxes_apart;
 pub use boxes::put_boxes;
 pub use boxes::put_normals;
-pub use boxes::put_planes;
+pub use boxes::put_planes_unless;
 pub use narrow::is_narrow;

@@ -16,13 +16,13 @@ use Rattle.shape.specs.Sharing.{Share}
 use Rattle.shape.proofs.Trading.{share-trade}
 use Rattle.shape.proofs.VerdictLaws.{says-no}
 use Rattle.kernel.specs.Meeting.{Judges}
-use Rattle.exact.specs.Vectors.{normalIn}
-use Rattle.kernel.specs.Standings.{planeRow, Stood}
+use Rattle.exact.specs.Vectors.{normalIn, planeRow}
+use Rattle.kernel.specs.Standings.{IsPlane, Stood}
 use Rattle.words.specs.Bits.{bit, ones}
 use Rattle.words.specs.Spans.{firstOf, span}
 use Rattle.words.proofs.BitLaws.{bit-of-none, set-within, few-ones}
 use Rattle.words.proofs.Filling.{both}
-use Rattle.boxes.specs.Boxes.{three, Boxed, Known, Prepared}
+use Rattle.boxes.specs.Boxes.{three, Boxed, Known, Prepared, Planned}
 use Rattle.boxes.specs.Triangles.{triangles, nine}
 use Rattle.sifting.specs.Tables.{CandidatesBelow}
 use Rattle.sifting.proofs.EndLaws.{boxes-reach}
@@ -41,7 +41,7 @@ pub lined-second : (second : List ℤ) (from z : ℕ) → lined second from 1 z 
 lined-second second from z = ap (λ (i : ℕ). nine i second) {x = from + 1 * z} {y = from + z} (omega arith)
 
 -- The triangle serves every place.
-module _ {corners normal : List ℤ} {plane : List Float} (known : Known corners normal plane) (asked : ℕ) where
+module _ {corners normal : List ℤ} (known : Known corners normal) (asked : ℕ) where
   same : (z : ℕ) → lined corners 0 0 z ≡ corners
   same = lined-alone corners (known .ready .long)
 
@@ -64,16 +64,16 @@ module _ {corners normal : List ℤ} {plane : List Float} (known : Known corners
         normal = λ z set. three-alone normal long z ∙ known .is-normal ∙ ap normalIn (sym (same z));
       }
 
-  pub corners-planed : Planed corners plane 0 0 asked
-  corners-planed =
-      let long : length plane ≡ 3 = ap length (known .is-plane) in
+  pub corners-planed : {plane : List Float} → IsPlane corners plane → Planed corners plane 0 0 asked
+  corners-planed {plane} is-plane =
+      let long : length plane ≡ 3 = ap length is-plane in
       record {
         room = λ z set. omega (arith, long);
-        plane = λ z set. three-alone plane long z ∙ known .is-plane ∙ ap planeRow (sym (same z));
+        plane = λ z set. three-alone plane long z ∙ is-plane ∙ ap planeRow (sym (same z));
       }
 
 -- The second list has a triangle for each candidate.
-module _ {second normals : List ℤ} {planes : List Float} (prepared : Prepared second normals planes) {from candidates : ℕ} (few : from ≤ 1024)
+module _ {second normals : List ℤ} (prepared : Prepared second normals) {from candidates : ℕ} (few : from ≤ 1024)
     (small : candidates < 2 ^ span (triangles second) from) where
   inside : (z : ℕ) → bit z candidates ≡ true → indexOf from 1 z < triangles second
   inside z set = omega (arith, set-within z (span (triangles second) from) candidates small set)
@@ -83,14 +83,14 @@ module _ {second normals : List ℤ} {planes : List Float} (prepared : Prepared 
 
   pub second-normalled : Normalled second normals from 1 candidates
   second-normalled = record {
-    room = λ z set. omega (arith, inside z set, prepared .normal-room);
+    room = λ z set. omega (arith, inside z set, prepared .room);
     normal = λ z set. prepared .normal (indexOf from 1 z) (inside z set);
   }
 
-  pub second-planed : Planed second planes from 1 candidates
-  second-planed = record {
-    room = λ z set. omega (arith, inside z set, prepared .plane-room);
-    plane = λ z set. prepared .plane (indexOf from 1 z) (inside z set);
+  pub second-planed : {planes : List Float} → Planned second planes → Planed second planes from 1 candidates
+  second-planed planned = record {
+    room = λ z set. omega (arith, inside z set, planned .room);
+    plane = λ z set. planned .plane (indexOf from 1 z) (inside z set);
   }
 
 module _ {corners second : List ℤ} {from n candidates : ℕ} (long : length corners ≡ 9) (may : MayMeet corners second from n candidates) where

@@ -2,21 +2,24 @@
 // others are candidates, and a word of them is decided in stages.
 use crate::standings::stand_by_estimate;
 use crate::standings::stand_exactly;
+use crate::standings::stand_low;
 use crate::verdicts::cross_by_estimate;
 use crate::verdicts::decide_rest;
 use boxes::is_narrow;
 use boxes::put_boxes;
 use boxes::put_normals;
-use boxes::put_planes;
+use boxes::put_planes_unless;
 use sifting::put_candidates;
 use words::ones_of;
 ghost use mathlib.Core.Path.{_≡_};
+ghost use mathlib.Core.Bool.{false};
 ghost use Prim.Native.Nat.{_*_, _/_, _≤_, _<_};
 ghost use lib.ListN.{length};
 ghost use Rattle.exact.specs.Small.{Narrow, BothNarrow};
+ghost use Rattle.kernel.specs.Standings.{IsPlane};
 ghost use Rattle.words.specs.Spans.{firstOf, span};
 ghost use Rattle.boxes.specs.Triangles.{triangles, nine};
-ghost use Rattle.boxes.specs.Boxes.{Sound, Known, Prepared};
+ghost use Rattle.boxes.specs.Boxes.{Sound, Known, Prepared, Planned};
 ghost use Rattle.deciding.specs.Words.{MayMeet, MayMeetBelow, Verdicts, VerdictsBelow, onesBelow};
 
 // The verdicts on the triangle and those of the second list from one on, 64 at the most. Only the candidates are looked at: how they stand to the plane of
@@ -32,7 +35,7 @@ fn decide_word(
     from: usize,
     candidates: u64,
 ) -> u64
-    requires { ⌜ Known (now corners) (now normal) (now plane) × Prepared (now second) (now normals) (now planes) × (from ≤ 1024) × MayMeet (now corners) (now second) from (span (triangles (now second)) from) candidates ⌝ }
+    requires { ⌜ Known (now corners) (now normal) × IsPlane (now corners) (now plane) × Prepared (now second) (now normals) × Planned (now second) (now planes) × (from ≤ 1024) × MayMeet (now corners) (now second) from (span (triangles (now second)) from) candidates ⌝ }
     ensures { λ r. ⌜ Verdicts (now (corners .entry)) (now (second .entry)) from (span (triangles (now (second .entry))) from) r ⌝ }
 {
     let mut standings = [0u32; 64];
@@ -48,7 +51,6 @@ fn decide_word(
         candidates,
     );
     let first = stand_exactly(
-        false,
         &mut standings[..],
         second,
         from,
@@ -57,6 +59,7 @@ fn decide_word(
         0,
         0,
         normal,
+        plane,
         seen.other,
         seen.kept,
         0,
@@ -74,7 +77,6 @@ fn decide_word(
         first.kept,
     );
     let both = stand_exactly(
-        false,
         &mut own[..],
         corners,
         0,
@@ -83,6 +85,7 @@ fn decide_word(
         from,
         1,
         normals,
+        planes,
         again.other,
         again.kept,
         first.other,
@@ -108,23 +111,20 @@ fn decide_word(
     )
 }
 
-// The same where 64 bits are enough for every sign, so that the estimate is not worth asking.
+// The same where all numbers are small, so that the estimate is not worth asking.
 fn decide_narrow_word(
     corners: &[i32],
     normal: &[i64],
-    plane: &[f64],
     second: &[i32],
     normals: &[i64],
-    planes: &[f64],
     from: usize,
     candidates: u64,
 ) -> u64
-    requires { ⌜ Known (now corners) (now normal) (now plane) × Prepared (now second) (now normals) (now planes) × (from ≤ 1024) × MayMeet (now corners) (now second) from (span (triangles (now second)) from) candidates × Narrow (now corners) × Narrow (now second) ⌝ }
+    requires { ⌜ Known (now corners) (now normal) × Prepared (now second) (now normals) × (from ≤ 1024) × MayMeet (now corners) (now second) from (span (triangles (now second)) from) candidates × Narrow (now corners) × Narrow (now second) ⌝ }
     ensures { λ r. ⌜ Verdicts (now (corners .entry)) (now (second .entry)) from (span (triangles (now (second .entry))) from) r ⌝ }
 {
     let mut standings = [0u32; 64];
-    let first = stand_exactly(
-        true,
+    let first = stand_low(
         &mut standings[..],
         second,
         from,
@@ -135,11 +135,9 @@ fn decide_narrow_word(
         normal,
         candidates,
         0,
-        0,
     );
     let mut own = [0u32; 64];
-    let both = stand_exactly(
-        true,
+    let both = stand_low(
         &mut own[..],
         corners,
         0,
@@ -149,7 +147,6 @@ fn decide_narrow_word(
         1,
         normals,
         first.kept,
-        0,
         first.other,
     );
     let word = decide_rest(
@@ -186,7 +183,7 @@ fn decide_word_of(
     k: usize,
     candidates: u64,
 ) -> u64
-    requires { ⌜ Prepared (now first) (now normals) (now planes) × Prepared (now second) (now others) (now rough) × BothNarrow narrow (now first) (now second) × (k < triangles (now first) * 16) × MayMeet (nine (k / 16) (now first)) (now second) (firstOf k) (span (triangles (now second)) (firstOf k)) candidates ⌝ }
+    requires { ⌜ Prepared (now first) (now normals) × Prepared (now second) (now others) × (narrow ≡ false → Planned (now first) (now planes) × Planned (now second) (now rough)) × BothNarrow narrow (now first) (now second) × (k < triangles (now first) * 16) × MayMeet (nine (k / 16) (now first)) (now second) (firstOf k) (span (triangles (now second)) (firstOf k)) candidates ⌝ }
     ensures { λ r. ⌜ Verdicts (nine (k / 16) (now (first .entry))) (now (second .entry)) (firstOf k) (span (triangles (now (second .entry))) (firstOf k)) r ⌝ }
 {
     if candidates == 0 {
@@ -198,10 +195,8 @@ fn decide_word_of(
         return decide_narrow_word(
             &first[at..at + 9],
             &normals[normal_at..normal_at + 3],
-            &planes[normal_at..normal_at + 3],
             second,
             others,
-            rough,
             k % 16 * 64,
             candidates,
         );
@@ -229,7 +224,7 @@ fn decide_words(
     rough: &[f64],
     words: &mut [u64],
 ) -> u64
-    requires { ⌜ Prepared (now first) (now normals) (now planes) × Prepared (now second) (now others) (now rough) × BothNarrow narrow (now first) (now second) × (triangles (now first) * 16 ≤ length (now words)) × MayMeetBelow (now first) (now second) (now words) (triangles (now first) * 16) ⌝ }
+    requires { ⌜ Prepared (now first) (now normals) × Prepared (now second) (now others) × (narrow ≡ false → Planned (now first) (now planes) × Planned (now second) (now rough)) × BothNarrow narrow (now first) (now second) × (triangles (now first) * 16 ≤ length (now words)) × MayMeetBelow (now first) (now second) (now words) (triangles (now first) * 16) ⌝ }
     ensures { λ r. ⌜ VerdictsBelow (now (first .entry)) (now (second .entry)) (now (words .exit)) (triangles (now (first .entry)) * 16) × (r ≡ onesBelow (triangles (now (second .entry))) (now (words .exit)) (triangles (now (first .entry)) * 16)) ⌝ }
 {
     let end = first.len() / 9 * 16;
@@ -279,16 +274,17 @@ pub fn decide_lists(first: &[i32], second: &[i32], words: &mut [u64]) -> u64
     ensures { λ r. ⌜ VerdictsBelow (now (first .entry)) (now (second .entry)) (now (words .exit)) (triangles (now (first .entry)) * 16) × (r ≡ onesBelow (triangles (now (second .entry))) (now (words .exit)) (triangles (now (first .entry)) * 16)) ⌝ }
 {
     put_all_candidates(first, second, words);
+    let narrow = is_narrow(first) & is_narrow(second);
     let mut normals = [0i64; 3_072];
     put_normals(&mut normals[..], first);
     let mut planes = [0.0f64; 3_072];
-    put_planes(&mut planes[..], first);
+    put_planes_unless(narrow, &mut planes[..], first);
     let mut others = [0i64; 3_072];
     put_normals(&mut others[..], second);
     let mut rough = [0.0f64; 3_072];
-    put_planes(&mut rough[..], second);
+    put_planes_unless(narrow, &mut rough[..], second);
     decide_words(
-        is_narrow(first) & is_narrow(second),
+        narrow,
         first,
         &normals[..],
         &planes[..],

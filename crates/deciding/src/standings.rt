@@ -5,6 +5,7 @@ use crate::places::Left;
 use crate::places::index_of;
 use kernel::estimated_standing;
 use kernel::exact_standing;
+use kernel::low_standing;
 use words::flag_at;
 use words::lowest_of;
 use words::without_lowest;
@@ -12,7 +13,7 @@ ghost use mathlib.Core.Path.{_≡_};
 ghost use Prim.Native.Nat.{_+_, _*_, _≤_, _<_};
 ghost use lib.ListN.{length, getD};
 ghost use Rattle.exact.specs.Grid.{Ready};
-ghost use Rattle.exact.specs.Small.{BothNarrow};
+ghost use Rattle.exact.specs.Small.{Narrow};
 ghost use Rattle.exact.specs.Vectors.{normalIn};
 ghost use Rattle.kernel.specs.Standings.{StandsTo, IsPlane, SeemsTo};
 ghost use Rattle.boxes.specs.Triangles.{triangles, nine};
@@ -84,24 +85,23 @@ pub fn stand_by_estimate(
 }
 
 // The standing of triangle i of one list to the plane of triangle j of the other, exactly.
-fn exact_at(narrow: bool, t: &[i32], i: usize, u: &[i32], j: usize, normals: &[i64]) -> u32
-    requires { ⌜ (i < triangles (now t)) × Ready 9 (nine i (now t)) × (j < triangles (now u)) × Ready 9 (nine j (now u)) × (3 * j + 3 ≤ length (now normals)) × (three j (now normals) ≡ normalIn (nine j (now u))) × BothNarrow narrow (nine i (now t)) (nine j (now u)) ⌝ }
+fn exact_at(t: &[i32], i: usize, u: &[i32], j: usize, normals: &[i64], planes: &[f64]) -> u32
+    requires { ⌜ (i < triangles (now t)) × Ready 9 (nine i (now t)) × (j < triangles (now u)) × Ready 9 (nine j (now u)) × (3 * j + 3 ≤ length (now normals)) × (three j (now normals) ≡ normalIn (nine j (now u))) × (3 * j + 3 ≤ length (now planes)) × IsPlane (nine j (now u)) (three j (now planes)) ⌝ }
     ensures { λ s. ⌜ StandsTo (nine i (now (t .entry))) (nine j (now (u .entry))) s ⌝ }
 {
     let t_at = 9 * i;
     let u_at = 9 * j;
-    let normal_at = 3 * j;
+    let at = 3 * j;
     exact_standing(
-        narrow,
         &t[t_at..t_at + 9],
         &u[u_at..u_at + 9],
-        &normals[normal_at..normal_at + 3],
+        &normals[at..at + 3],
+        &planes[at..at + 3],
     )
 }
 
 // The standings at the places that are asked, exactly: pairs with a corner alone go to those that are kept, and pairs in one plane to the others.
 pub fn stand_exactly(
-    narrow: bool,
     standings: &mut [u32],
     t: &[i32],
     start: usize,
@@ -110,11 +110,12 @@ pub fn stand_exactly(
     base: usize,
     stride: usize,
     normals: &[i64],
+    planes: &[f64],
     asked: u64,
     sure: u64,
     close: u64,
 ) -> Left
-    requires { ⌜ (length (now standings) ≡ 64) × Lined (now t) start step asked × Lined (now u) base stride asked × Normalled (now u) (now normals) base stride asked × BothNarrow narrow (now t) (now u) × Clear asked sure × Clear asked close ⌝ }
+    requires { ⌜ (length (now standings) ≡ 64) × Lined (now t) start step asked × Lined (now u) base stride asked × Normalled (now u) (now normals) base stride asked × Planed (now u) (now planes) base stride asked × Clear asked sure × Clear asked close ⌝ }
     ensures { λ r. ⌜ Told (StandsAt (now (t .entry)) (now (u .entry)) start step base stride) asked (now (standings .entry)) (now (standings .exit)) × Marked (λ z b. b ≡ isAlone (getD (now (standings .exit)) z 0)) sure asked (r .kept) × Marked (λ z b. b ≡ isWithin (getD (now (standings .exit)) z 0)) close asked (r .other) ⌝ }
 {
     let mut kept = sure;
@@ -125,7 +126,58 @@ pub fn stand_exactly(
         let z = lowest_of(left);
         let i = index_of(start, step, z);
         let j = index_of(base, stride, z);
-        let s = exact_at(narrow, t, i, u, j, normals);
+        let s = exact_at(t, i, u, j, normals, planes);
+        standings[z as usize] = s;
+        kept += flag_at(1 < s, z);
+        other += flag_at(s == 1, z);
+        left = next;
+    }
+    Left {
+        kept: kept,
+        other: other,
+    }
+}
+
+// The standing of triangle i of one list to the plane of triangle j of the other, of small numbers.
+fn low_at(t: &[i32], i: usize, u: &[i32], j: usize, normals: &[i64]) -> u32
+    requires { ⌜ (i < triangles (now t)) × Ready 9 (nine i (now t)) × (j < triangles (now u)) × Ready 9 (nine j (now u)) × (3 * j + 3 ≤ length (now normals)) × (three j (now normals) ≡ normalIn (nine j (now u))) × Narrow (nine i (now t)) × Narrow (nine j (now u)) ⌝ }
+    ensures { λ s. ⌜ StandsTo (nine i (now (t .entry))) (nine j (now (u .entry))) s ⌝ }
+{
+    let t_at = 9 * i;
+    let u_at = 9 * j;
+    let normal_at = 3 * j;
+    low_standing(
+        &t[t_at..t_at + 9],
+        &u[u_at..u_at + 9],
+        &normals[normal_at..normal_at + 3],
+    )
+}
+
+// What `stand_exactly` gives, where all numbers are small: the estimate would not be worth asking.
+pub fn stand_low(
+    standings: &mut [u32],
+    t: &[i32],
+    start: usize,
+    step: usize,
+    u: &[i32],
+    base: usize,
+    stride: usize,
+    normals: &[i64],
+    asked: u64,
+    close: u64,
+) -> Left
+    requires { ⌜ (length (now standings) ≡ 64) × Lined (now t) start step asked × Lined (now u) base stride asked × Normalled (now u) (now normals) base stride asked × Narrow (now t) × Narrow (now u) × Clear asked close ⌝ }
+    ensures { λ r. ⌜ Told (StandsAt (now (t .entry)) (now (u .entry)) start step base stride) asked (now (standings .entry)) (now (standings .exit)) × Marked (λ z b. b ≡ isAlone (getD (now (standings .exit)) z 0)) 0 asked (r .kept) × Marked (λ z b. b ≡ isWithin (getD (now (standings .exit)) z 0)) close asked (r .other) ⌝ }
+{
+    let mut kept: u64 = 0;
+    let mut other = close;
+    let mut left = asked;
+    while left != 0 {
+        let next = without_lowest(left);
+        let z = lowest_of(left);
+        let i = index_of(start, step, z);
+        let j = index_of(base, stride, z);
+        let s = low_at(t, i, u, j, normals);
         standings[z as usize] = s;
         kept += flag_at(1 < s, z);
         other += flag_at(s == 1, z);

@@ -1,17 +1,19 @@
--- What an estimate tells: where it is farther from zero than its error can be, its sign is that of the exact side. `told` is the law that callers use.
--- Assumes nothing.
+-- What an estimate tells: where it is farther from zero than its error can be, its sign is that of the exact side; elsewhere the side is no larger than
+-- twice the error. `told` is the law that callers use. Assumes nothing.
 use mathlib.Core.Path.{_≡_, refl, sym, _∙_, subst}
-use mathlib.Core.Bool.{true}
+use mathlib.Core.Bool.{true, false}
 use mathlib.Core.List.{[], _∷_}
-use Prim.Native.Nat.{zero, suc}
+use mathlib.Core.Logic.{_⊎_, inl, inr}
+use Prim.Native.Nat.{zero, suc, _+_, _≤_}
 use native.Mathlib.Omega.{arith}
 use lib.Dec.{T, ltb→lt, lit≤}
-use lib.IntN.{ℤ, pos, negsuc, negℤ, _-ℤ_}
-use lib.Signed.{_≤ℤ_, _<ℤ_}
+use lib.IntN.{ℤ, pos, negsuc, negℤ, natAbs, _+ℤ_, _-ℤ_}
+use lib.Signed.{ltZ, _≤ℤ_, _<ℤ_}
 use lib.Ieee.{Float, binary64, ofBits, ofInt}
-use Rattle.algebra.proofs.Expression.{var, lit, neg, _⊟_}
-use Rattle.algebra.proofs.Certificate.{_≦_, _≺_, hyp, num, _⊕_, prove<}
-use Rattle.algebra.proofs.Bound.{at-most, at-least}
+use Rattle.algebra.proofs.Expression.{var, lit, neg, _⊞_, _⊟_}
+use Rattle.algebra.proofs.Certificate.{_≦_, _≺_, hyp, num, _⊕_, prove≤, prove<}
+use Rattle.algebra.proofs.Order.{lt-or-ge}
+use Rattle.algebra.proofs.Bound.{at-most, at-least, within-both}
 use Rattle.shape.specs.Points.{Point}
 use Rattle.shape.specs.Signs.{side, sign}
 use Rattle.estimates.specs.Doubles.{OnGrid, double, rough, planeOf, estimate, Whole, Near, errorLimit, farAbove, farBelow}
@@ -62,11 +64,39 @@ near-below {e} {z} n far =
     (record { lt = subst T (sym (sym (less-whole (n .whole) (neg-whole limit-whole)) ∙ far)) tt })
     (at-least (n .number -ℤ z) errorLimit (n .near)))
 
+-- ---- the size of what is not told
+-- A number that is no farther than n from zero, and no farther than n from z.
+not-above : (g z n : ℤ) → g ≤ℤ n → negℤ n ≤ℤ (g -ℤ z) → z ≤ℤ (n +ℤ n)
+not-above g z n =
+    prove≤ (g ∷ z ∷ n ∷ []) ((var 0 ≦ var 2) ∷ (neg (var 2) ≦ var 0 ⊟ var 1) ∷ []) (var 1) (var 2 ⊞ var 2) (num 1) (hyp 0 ⊕ hyp 1) tt tt refl
+
+not-below : (g z n : ℤ) → negℤ n ≤ℤ g → (g -ℤ z) ≤ℤ n → negℤ z ≤ℤ (n +ℤ n)
+not-below g z n =
+    prove≤ (g ∷ z ∷ n ∷ []) ((neg (var 2) ≦ var 0) ∷ (var 0 ⊟ var 1 ≦ var 2) ∷ []) (neg (var 1)) (var 2 ⊞ var 2) (num 1) (hyp 0 ⊕ hyp 1) tt tt refl
+
+not-less : (x y : ℤ) → ltZ x y ≡ false → y ≤ℤ x
+not-less x y e = by-order (lt-or-ge x y)
+  where
+    by-order : (x <ℤ y) ⊎ (y ≤ℤ x) → y ≤ℤ x
+    by-order (inl h) = absurd (subst T e (h .lt))
+    by-order (inr h) = h
+
+pub near-between : {e : Float} {z : ℤ} → Near e z errorLimit → farAbove e ≡ false → farBelow e ≡ false → natAbs z ≤ errorLimit + errorLimit
+near-between {e} {z} n above below =
+    within-both z (errorLimit + errorLimit)
+    (not-above (n .number) z (pos errorLimit)
+    (not-less (pos errorLimit) (n .number) (sym (less-whole limit-whole (n .whole)) ∙ above))
+    (at-least (n .number -ℤ z) errorLimit (n .near)))
+    (not-below (n .number) z (pos errorLimit)
+    (not-less (n .number) (negℤ (pos errorLimit)) (sym (less-whole (n .whole) (neg-whole limit-whole)) ∙ below))
+    (at-most (n .number -ℤ z) errorLimit (n .near)))
+
 -- ---- for callers
 -- What the estimate e tells of the side of d to the plane of a, b, c.
 pub record Told (e : Float) (a b c d : Point) : Type 0 where
   pub above : farAbove e ≡ true → sign (side a b c d) ≡ pos 1
   pub below : farBelow e ≡ true → sign (side a b c d) ≡ negsuc 0
+  pub between : farAbove e ≡ false → farBelow e ≡ false → natAbs (side a b c d) ≤ errorLimit + errorLimit
 
 -- Where code holds the plane of a, b, c and the points a and d as doubles, all on the grid.
 pub told : {n : Plane} {p q : RoughPoint} (a b c d : Point) → OnGrid a → OnGrid b → OnGrid c → OnGrid d →
@@ -74,4 +104,4 @@ pub told : {n : Plane} {p q : RoughPoint} (a b c d : Point) → OnGrid a → OnG
 told a b c d on-a on-b on-c on-d the-plane the-a the-d =
     let near = estimate-near a b c d on-a on-b on-c on-d in
     subst (λ (e : Float). Told e a b c d) (λ i. estimate (sym the-plane i) (sym the-a i) (sym the-d i))
-    (record { above = near-above near; below = near-below near })
+    (record { above = near-above near; below = near-below near; between = near-between near })

@@ -1,24 +1,24 @@
--- Rows and normals whose product 64 bits hold: what tells that they do, and what the machine then reads. Assumes nothing.
-use mathlib.Core.Path.{_≡_, refl, subst}
+-- Rows and normals whose product is told by its low word, and what tells that it is. Assumes nothing.
+use mathlib.Core.Path.{refl, subst}
 use mathlib.Core.Bool.{Bool, true, false, _&&_}
 use mathlib.Core.List.{[], _∷_}
 use Prim.Native.Nat.{ℕ, zero, suc, _+_, _*_, _^_, _≤_, _<_}
-use native.Mathlib.Nat.{mul-le-mul}
 use native.Mathlib.Omega.{arith}
 use borrow.Author.Tests.{leb-true, leb-false}
-use lib.Dec.{T, leb, ltb, lt→ltb, lit<}
-use lib.IntN.{ℤ, pos, negsuc, natAbs, _+ℤ_, _-ℤ_, _*ℤ_}
+use lib.Dec.{leb, lit<}
+use lib.IntN.{ℤ, pos, negsuc, natAbs, _-ℤ_, _*ℤ_}
 use lib.Signed.{mag, leZ}
 use mir.Syntax.{w64}
-use mir.Val.{SFits, hbits}
-use Rattle.algebra.proofs.Bound.{Within, within-sub}
-use Rattle.algebra.proofs.Machine.{Reads, exact, parameter, held, returned, in-range, sum, product}
+use mir.Val.{hbits}
+use Rattle.algebra.proofs.Bound.{Within, within-add, within-sub, within-mul}
+use Rattle.algebra.proofs.Machine.{exact, returned}
 use Rattle.shape.specs.Points.{Point, coord}
 use Rattle.shape.specs.Signs.{turnIn, row}
-use Rattle.shape.specs.Normals.{dot, normalOf}
+use Rattle.shape.specs.Normals.{normalOf}
 use Rattle.shape.specs.Verdicts.{Says}
 use Rattle.shape.proofs.TurnSize.{turn-size}
 use Rattle.shape.proofs.VerdictLaws.{says-yes, says-both, says-same}
+use Rattle.wide.specs.Low.{LowWord}
 use Rattle.exact.specs.Small.{narrow}
 use Rattle.exact.specs.Vectors.{Sized, differenceSize, narrowSize, Holds}
 use Rattle.exact.proofs.Readings.{kept, vector}
@@ -26,10 +26,10 @@ use Rattle.exact.proofs.Readings.{kept, vector}
 -- ---- by their sizes
 -- No coordinate of the row is larger than m, and none of the normal than k.
 holds : {m k : ℕ} {u n : Point} → m * k + m * k + m * k < 2 ^ 63 → Sized m u → Sized k n → Holds u n
-holds {m} {k} {u} {n} h s r = record { below = omega (arith, one 0, one 1, one 2, h) }
+holds {m} {k} {u} {n} h s r = record { below = omega (arith, within-add (within-add (one 0) (one 1)) (one 2) .abs, h) }
   where
-    one : (i : ℕ) → natAbs (coord i u) * natAbs (coord i n) ≤ m * k
-    one i = mul-le-mul (s .each i) (r .each i)
+    one : (i : ℕ) → Within (m * k) (coord i u *ℤ coord i n)
+    one i = within-mul {a = coord i u} {b = coord i n} (record { abs = s .each i }) (record { abs = r .each i })
 
 -- A row of the grid and a narrow normal.
 pub narrow-holds : {u n : Point} → Sized differenceSize u → Sized narrowSize n → Holds u n
@@ -81,60 +81,6 @@ says-sized {n} {x} {y} {z} p q r = says-same ((λ h. record { each = each h }), 
     each h (suc (suc (suc i))) = omega arith
 
 -- ---- what the machine reads
--- Code holds each coordinate of a point in 64 bits.
-pub record Stored (a : Point) : Type 0 where
-  pub each : (i : ℕ) → SFits w64 (coord i a)
-
-pub stored : {x y z : ℤ} → mag x < 2 ^ hbits w64 → mag y < 2 ^ hbits w64 → mag z < 2 ^ hbits w64 → Stored (x ∷ y ∷ z ∷ [])
-stored {x} {y} {z} f g h = record { each = each }
-  where
-    each : (i : ℕ) → SFits w64 (coord i (x ∷ y ∷ z ∷ []))
-    each zero = record { sfits = f }
-    each (suc zero) = record { sfits = g }
-    each (suc (suc zero)) = record { sfits = h }
-    each (suc (suc (suc i))) = record { sfits = lit< tt }
-
-module _ {u n : Point} (s : Stored u) (r : Stored n) (h : Holds u n) where
-  abbrev size : ℕ → ℕ
-  size i = natAbs (coord i u) * natAbs (coord i n)
-
-  size-fits : (i : ℕ) → i < 3 → T (ltb (size i) (2 ^ hbits w64))
-  size-fits zero l = lt→ltb (size 0) (2 ^ 63) (omega (arith, h .below))
-  size-fits (suc zero) l = lt→ltb (size 1) (2 ^ 63) (omega (arith, h .below))
-  size-fits (suc (suc zero)) l = lt→ltb (size 2) (2 ^ 63) (omega (arith, h .below))
-  size-fits (suc (suc (suc i))) l = absurd (omega arith)
-
-  -- The product of coordinate i of the two, before and after it is stored.
-  one-product : (i : ℕ) → Reads (kept (coord i u) *ℤ kept (coord i n)) (coord i u *ℤ coord i n) (size i)
-  one-product i = product (parameter (s .each i) (record { abs = omega arith })) (parameter (r .each i) (record { abs = omega arith }))
-
-  pub product-fits : (i : ℕ) → i < 3 → SFits w64 (kept (coord i u) *ℤ kept (coord i n))
-  product-fits i l = in-range (one-product i) (size-fits i l)
-
-  abbrev storedProduct : ℕ → ℤ
-  storedProduct i = kept (kept (coord i u) *ℤ kept (coord i n))
-
-  stored-product : (i : ℕ) → i < 3 → Reads (storedProduct i) (coord i u *ℤ coord i n) (size i)
-  stored-product i l = held w64 (one-product i) (size-fits i l)
-
-  -- Two of them added up, and three.
-  two-products : Reads (storedProduct 0 +ℤ storedProduct 1) (coord 0 u *ℤ coord 0 n +ℤ coord 1 u *ℤ coord 1 n) (size 0 + size 1)
-  two-products = sum (stored-product 0 (lit< tt)) (stored-product 1 (lit< tt))
-
-  two-fit : T (ltb (size 0 + size 1) (2 ^ hbits w64))
-  two-fit = lt→ltb (size 0 + size 1) (2 ^ 63) (omega (arith, h .below))
-
-  pub two-products-fit : SFits w64 (storedProduct 0 +ℤ storedProduct 1)
-  two-products-fit = in-range two-products two-fit
-
-  three-products : Reads (kept (storedProduct 0 +ℤ storedProduct 1) +ℤ storedProduct 2) (dot u n) (size 0 + size 1 + size 2)
-  three-products = sum (held w64 two-products two-fit) (stored-product 2 (lit< tt))
-
-  three-fit : T (ltb (size 0 + size 1 + size 2) (2 ^ hbits w64))
-  three-fit = lt→ltb (size 0 + size 1 + size 2) (2 ^ 63) (h .below)
-
-  pub three-products-fit : SFits w64 (kept (storedProduct 0 +ℤ storedProduct 1) +ℤ storedProduct 2)
-  three-products-fit = in-range three-products three-fit
-
-  pub dot-read : kept (kept (storedProduct 0 +ℤ storedProduct 1) +ℤ storedProduct 2) ≡ dot u n
-  dot-read = held w64 three-products three-fit .is
+-- The low word of a product of two numbers that were stored and read back.
+pub product-read : (x y : ℤ) {w : ℕ} → mag x < 2 ^ hbits w64 → mag y < 2 ^ hbits w64 → LowWord (kept x *ℤ kept y) w → LowWord (x *ℤ y) w
+product-read x y {w} f g = subst (λ (z : ℤ). LowWord z w) (λ i. returned w64 {r = x} {z = x} f refl i *ℤ returned w64 {r = y} {z = y} g refl i)

@@ -3,9 +3,10 @@
 use mathlib.Core.Path.{_≡_}
 use mathlib.Core.List.{List, [], _∷_}
 use Prim.Native.Nat.{ℕ, _+_, _*_, _^_, _≤_, _<_}
+use lib.Ieee.{Float}
 use lib.IntN.{ℤ, pos, negsuc, natAbs}
 use Rattle.shape.specs.Points.{Point, coord, pointAt}
-use Rattle.shape.specs.Normals.{normalOf}
+use Rattle.shape.specs.Normals.{dot, normalOf}
 use Rattle.estimates.specs.Doubles.{rough, planeOf}
 use Rattle.estimates.specs.declared.Plane.{Plane}
 use Rattle.exact.specs.Grid.{limit}
@@ -32,14 +33,14 @@ differenceSize = limit + limit
 abbrev pub minorSize : ℕ
 minorSize = differenceSize * differenceSize
 
--- The largest size of a normal's components for which 64 bits hold its three products with differences of up to 2^31, and their sum: 3 * 1431655765 * 2^31
--- is below 2^63. With one more they might not.
+-- The largest size of a normal's components for which its three products with differences of up to 2^31 add up to less than 2^63 in size, whatever their
+-- signs: 3 * 1431655765 * 2^31 is below 2^63. With one more they might not.
 abbrev pub narrowSize : ℕ
 narrowSize = 1431655765
 
--- 64 bits hold the product of a row and a normal, and each sum on the way.
+-- The product of a row and a normal is so small that its low word tells it.
 pub record Holds (u n : Point) : Type 0 where
-  pub below : natAbs (coord 0 u) * natAbs (coord 0 n) + natAbs (coord 1 u) * natAbs (coord 1 n) + natAbs (coord 2 u) * natAbs (coord 2 n) < 2 ^ 63
+  pub below : natAbs (dot u n) < 2 ^ 63
 
 -- The plane in doubles of a triangle whose first corner is a, and its normal.
 pub record PlaneThrough (a normal : Point) (plane : Plane) : Type 0 where
@@ -57,6 +58,10 @@ normalIn numbers = normalOf (pointAt 3 0 numbers) (pointAt 3 3 numbers) (pointAt
 -- Its plane in doubles.
 abbrev pub planeIn : List ℤ → Plane
 planeIn numbers = planeOf (rough (pointAt 3 0 numbers)) (rough (pointAt 3 3 numbers)) (rough (pointAt 3 6 numbers))
+
+-- The same as a row of three numbers.
+abbrev pub planeRow : List ℤ → List Float
+planeRow numbers = planeIn numbers .x ∷ planeIn numbers .y ∷ planeIn numbers .z ∷ []
 
 -- A sign is -1, 0 or 1.
 abbrev pub signNumber : Sign → ℤ

@@ -1,23 +1,19 @@
 -- What standings and last signs are worth (specs/Standings.antt): from them to the definition. Assumes nothing.
-use mathlib.Core.Path.{_≡_, refl, sym, _∙_, subst}
+use mathlib.Core.Path.{_≡_, refl}
 use mathlib.Core.Bool.{Bool, true, false}
-use mathlib.Core.List.{List, [], _∷_}
+use mathlib.Core.List.{List}
 use Prim.Native.Nat.{ℕ}
-use lib.Ieee.{Float, nan}
 use lib.IntN.{ℤ}
-use lib.ListN.{length, getD}
 use native.Mathlib.Omega.{arith}
 use Rattle.shape.specs.Points.{pointsAt}
 use Rattle.shape.specs.Sharing.{Share}
 use Rattle.shape.specs.WireTest.{closeTest}
 use Rattle.shape.proofs.VerdictLaws.{says-same}
 use Rattle.shape.proofs.Trading.{share-trade}
-use Rattle.estimates.specs.declared.Plane.{Plane}
-use Rattle.exact.specs.Vectors.{planeIn}
 use Rattle.space.specs.Spaces.{ofLists, lastSignsBy}
 use Rattle.space.proofs.SpaceLaws.{if-beside, if-within, if-alone}
 use Rattle.kernel.specs.Meeting.{Judges}
-use Rattle.kernel.specs.Standings.{StandsTo, planeRow}
+use Rattle.kernel.specs.Standings.{StandsTo}
 use Rattle.kernel.proofs.Judging.{judged}
 
 -- A verdict on two triangles is one on them the other way round.
@@ -46,28 +42,3 @@ pub no-flag : {X : Type 0} → _≡_ {A = Bool} false true → X
 no-flag e =
     let same : _≡_ {A = ℕ} 0 1 = cc in
     absurd (omega arith)
-
--- ---- planes
--- A plane whose numbers are those of the row is the list's.
-pub plane-of-row : (u : List ℤ) {p : Plane} → p .x ∷ p .y ∷ p .z ∷ [] ≡ planeRow u → p ≡ planeIn u
-plane-of-row u e = λ i. record { x = first (e i); y = second (e i); z = third (e i) }
-  where
-    first : List Float → Float
-    first [] = nan
-    first (x ∷ l) = x
-
-    second : List Float → Float
-    second [] = nan
-    second (x ∷ l) = first l
-
-    third : List Float → Float
-    third [] = nan
-    third (x ∷ l) = second l
-
--- A list of three is what it has at its three places.
-pub three-of : (l : List Float) (d : Float) → length l ≡ 3 → getD l 0 d ∷ getD l 1 d ∷ getD l 2 d ∷ [] ≡ l
-three-of [] d e = absurd (omega arith)
-three-of (x ∷ []) d e = absurd (omega arith)
-three-of (x ∷ y ∷ []) d e = absurd (omega arith)
-three-of (x ∷ y ∷ z ∷ []) d e = refl
-three-of (x ∷ y ∷ z ∷ w ∷ l) d e = absurd (omega arith)

@@ -1,23 +1,19 @@
 -- The vocabulary of a verdict that is found in stages: how each of two triangles stands to the other's plane, by the numbers that crate `space` gives
 -- to standings, and then the last two signs. Nobody has to know what the numbers mean who knows what they are worth: proofs/Stages.antt.
 use mathlib.Core.Path.{_≡_}
-use mathlib.Core.List.{List, [], _∷_}
+use mathlib.Core.List.{List}
 use Prim.Native.Nat.{ℕ, _<_}
 use lib.IntN.{ℤ}
 use lib.Ieee.{Float}
 use Rattle.shape.specs.SpaceTest.{pattern}
-use Rattle.exact.specs.Vectors.{planeIn}
-use Rattle.estimates.specs.declared.Plane.{Plane}
+use Rattle.exact.specs.Vectors.{planeRow}
 use Rattle.space.specs.Spaces.{ofLists, Stands, Crosses, lastSignsBy}
 
 -- The number s is that of the standing of t to the plane of u, nine numbers each.
 abbrev pub StandsTo : (t u : List ℤ) → ℕ → Type 0
 StandsTo t u s = Stands (ofLists pattern t u) s
 
--- The plane of u in doubles, as a list of three numbers.
-abbrev pub planeRow : List ℤ → List Float
-planeRow u = planeIn u .x ∷ planeIn u .y ∷ planeIn u .z ∷ []
-
+-- The plane of u in doubles, as a row of three numbers.
 abbrev pub IsPlane : List ℤ → List Float → Type 0
 IsPlane u plane = plane ≡ planeRow u
 

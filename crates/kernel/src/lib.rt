@@ -9,6 +9,7 @@ pub use kinds::is_flat;
 pub use meeting::estimated_standing;
 pub use meeting::exact_standing;
 pub use meeting::flat_triangles_meet;
+pub use meeting::low_standing;
 pub use meeting::meet_by_standings;
 pub use meeting::put_normal;
 pub use meeting::put_plane;

@@ -1,22 +1,22 @@
 // Whether two shapes that passed their checks have a point in common, a list each. What is promised is the definition, so the crates
 // above know nothing of the tests.
-use estimates::Plane;
-use exact::SpacePoint;
 use exact::is_narrow;
 use exact::plane_at;
 use plane::plane_triangle;
 use plane::planes_meet;
 use space::crossing;
+use space::kept_standing;
+use space::normal_in;
 use space::normal_of;
+use space::plane_in;
 use space::space_triangle;
 use wires::close_meet;
 use wires::segment_meets_any;
 ghost use mathlib.Core.Path.{_≡_};
-ghost use mathlib.Core.List.{[], _∷_};
 ghost use lib.ListN.{length};
 ghost use Rattle.exact.specs.Grid.{Ready, Passed};
-ghost use Rattle.exact.specs.Small.{BothNarrow};
-ghost use Rattle.exact.specs.Vectors.{spatial, normalIn};
+ghost use Rattle.exact.specs.Small.{Narrow, BothNarrow};
+ghost use Rattle.exact.specs.Vectors.{normalIn};
 ghost use Rattle.kernel.specs.Meeting.{Judges};
 ghost use Rattle.kernel.specs.Standings.{StandsTo, IsPlane, SeemsTo, Stood};
 
@@ -46,12 +46,20 @@ pub fn estimated_standing(t: &[i32], u: &[i32], plane: &[f64]) -> u32
     space::estimated_standing(&t[..], &u[..], plane_in(plane))
 }
 
-// The same exactly, where n is the normal of u. The flag says that all numbers are so small that 64 bits are enough.
-pub fn exact_standing(narrow: bool, t: &[i32], u: &[i32], n: &[i64]) -> u32
-    requires { ⌜ Ready 9 (now t) × Ready 9 (now u) × (now n ≡ normalIn (now u)) × BothNarrow narrow (now t) (now u) ⌝ }
+// The same exactly, where n is the normal of u, too.
+pub fn exact_standing(t: &[i32], u: &[i32], n: &[i64], plane: &[f64]) -> u32
+    requires { ⌜ Ready 9 (now t) × Ready 9 (now u) × (now n ≡ normalIn (now u)) × IsPlane (now u) (now plane) ⌝ }
     ensures { λ s. ⌜ StandsTo (now (t .entry)) (now (u .entry)) s ⌝ }
 {
-    space::exact_standing(narrow, &t[..], &u[..], normal_in(n))
+    kept_standing(&t[..], &u[..], &n[..], &plane[..])
+}
+
+// The same of small numbers, by low words.
+pub fn low_standing(t: &[i32], u: &[i32], n: &[i64]) -> u32
+    requires { ⌜ Ready 9 (now t) × Ready 9 (now u) × (now n ≡ normalIn (now u)) × Narrow (now t) × Narrow (now u) ⌝ }
+    ensures { λ s. ⌜ StandsTo (now (t .entry)) (now (u .entry)) s ⌝ }
+{
+    space::low_standing(&t[..], &u[..], normal_in(n))
 }
 
 // Whether they have a point in common, where s and r are their standings, and neither is beside the other's plane.
@@ -70,7 +78,7 @@ pub fn meet_by_standings(narrow: bool, t: &[i32], s: u32, u: &[i32], r: u32) -> 
 
 // ---- the same at once
 
-// The standing of t to the plane of u: by 64 bits where the normal of u is narrow, else by the estimate, and exactly where that can't tell.
+// The standing of t to the plane of u: by low words where the normal of u is narrow, else by the estimate, and exactly where that can't tell.
 fn standing_to(t: &[i32], u: &[i32]) -> u32
     requires { ⌜ Ready 9 (now t) × Ready 9 (now u) ⌝ }
     ensures { λ s. ⌜ StandsTo (now (t .entry)) (now (u .entry)) s ⌝ }
@@ -78,13 +86,14 @@ fn standing_to(t: &[i32], u: &[i32]) -> u32
     let corners = space_triangle(&u[..]);
     let n = normal_of(corners);
     if is_narrow(n) {
-        return space::exact_standing(false, &t[..], &u[..], n);
+        return space::low_standing(&t[..], &u[..], n);
     }
-    let seen = space::estimated_standing(&t[..], &u[..], plane_at(corners.p, corners.q, corners.r));
+    let plane = plane_at(corners.p, corners.q, corners.r);
+    let seen = space::estimated_standing(&t[..], &u[..], plane);
     if seen < 16 {
         return seen;
     }
-    space::exact_standing(false, &t[..], &u[..], n)
+    space::exact_standing(&t[..], &u[..], n, plane)
 }
 
 // Whether they have a point in common.
@@ -101,30 +110,6 @@ pub fn triangles_meet(first: &[i32], second: &[i32]) -> bool
         return false;
     }
     meet_by_standings(false, &first[..], s, &second[..], r)
-}
-
-// The normal that fills a list of three numbers.
-fn normal_in(numbers: &[i64]) -> SpacePoint
-    requires { ⌜ length (now numbers) ≡ 3 ⌝ }
-    ensures { λ r. ⌜ spatial r ≡ now (numbers .entry) ⌝ }
-{
-    SpacePoint {
-        x: numbers[0],
-        y: numbers[1],
-        z: numbers[2],
-    }
-}
-
-// The plane that fills a list of three doubles.
-fn plane_in(numbers: &[f64]) -> Plane
-    requires { ⌜ length (now numbers) ≡ 3 ⌝ }
-    ensures { λ r. ⌜ r .x ∷ r .y ∷ r .z ∷ [] ≡ now (numbers .entry) ⌝ }
-{
-    Plane {
-        x: numbers[0],
-        y: numbers[1],
-        z: numbers[2],
-    }
 }
 
 // Writes the normal of a triangle, for those who ask of the same triangle often.

@@ -3,12 +3,13 @@
 use mathlib.Core.Path.{_≡_, refl, sym, _∙_, ap, subst}
 use mathlib.Core.Bool.{Bool, true, false, not, _&&_, cond}
 use mathlib.Core.List.{List, [], _∷_}
-use Prim.Native.Nat.{ℕ, zero, suc, _+_, _*_, _/_, _%_, _≤_}
+use Prim.Native.Nat.{ℕ, zero, suc, _+_, _*_, _/_, _%_, _^_, _≤_, _<_}
 use native.Mathlib.Omega.{arith}
 use native.Mathlib.Decide.{ℕ-discrete}
 use lib.ListN.{length, getD}
 use lib.Dec.{eqb}
 use borrow.Author.Tests.{ltb-true, ltb-false}
+use lib.Ieee.{Float, nan}
 use lib.IntN.{ℤ, natAbs}
 use mir.Val.{boolByte}
 use Rattle.shape.specs.Points.{Point, coord, pointAt}
@@ -22,9 +23,10 @@ use Rattle.shape.proofs.Planes.{side-by-normal}
 use Rattle.shape.proofs.Dropping.{axis-says}
 use Rattle.exact.specs.Grid.{limit, Ready}
 use Rattle.exact.specs.Small.{narrow, Narrow}
-use Rattle.exact.specs.Vectors.{spatial, Sized, minorSize, narrowSize, Holds, normalIn}
+use Rattle.exact.specs.Vectors.{spatial, Sized, minorSize, narrowSize, Holds, PlaneThrough, normalIn, planeIn, planeRow}
 use Rattle.plane.specs.Planes.{PlaneAt, SizedTriangle}
-use Rattle.space.specs.Spaces.{SpaceAt, SizedSpace, IsNormal, ofSpace, ofSpaces, ofList, turnsIn, swapIn, toldStanding, Numbered, Stands, firstPlace, secondPlace, thirdPlace, InOrder, lastSignsBy}
+use Rattle.space.specs.Spaces.{SpaceAt, SizedSpace, IsNormal, IsPlaneOf, SidesHold, ofSpace, ofSpaces, ofList, turnsIn, swapIn, toldStanding, Numbered, Stands, firstPlace, secondPlace, thirdPlace, InOrder, lastSignsBy}
+use Rattle.estimates.specs.declared.Plane.{Plane}
 use Rattle.plane.specs.declared.meeting.PlaneTriangle.{PlaneTriangle}
 use Rattle.exact.specs.declared.determinant.SpacePoint.{SpacePoint}
 use Rattle.space.specs.declared.meeting.SpaceTriangle.{SpaceTriangle}
@@ -108,22 +110,41 @@ normal-in {l} ready at e = record {
       (sized-normal (sized-point ready 3 0 refl) (sized-point ready 3 3 refl) (sized-point ready 3 6 refl));
 }
 
--- 64 bits hold a product with a narrow normal, for points of the grid.
+-- The plane of a triangle in doubles, and its normal, from the first corner.
+pub plane-through : {t : SpaceTriangle} {n : SpacePoint} {plane : Plane} → SizedSpace limit t → IsNormal t n → IsPlaneOf t plane →
+    PlaneThrough (spatial (t .p)) (spatial n) plane
+plane-through {t} s normal is =
+    record { b = spatial (t .q); c = spatial (t .r); sized-b = s .at-q; sized-c = s .at-r; is = is; normal-is = normal .is }
+
+-- The low word tells a product with a narrow normal, for points of the grid.
 pub grid-holds : {p q : Point} {n : Point} → Sized limit p → Sized limit q → Sized narrowSize n → Holds (row p q) n
 grid-holds sp sq small = narrow-holds (sized-row sp sq) small
 
--- And each of a triangle's corners against another's plane, where all numbers are narrow.
-pub lists-hold : (k l : List ℤ) {t u : SpaceTriangle} {n : SpacePoint} → Narrow k → Narrow l →
+-- And each of a triangle's corners against another's plane: where that has a narrow normal, and where all numbers are narrow.
+pub normal-holds : {k l : List ℤ} → Ready 9 k → Ready 9 l → Sized narrowSize (normalIn l) → SidesHold k l
+normal-holds {k} {l} rk rl small = record { at-p = one 0; at-q = one 3; at-r = one 6 }
+  where
+    one : (i : ℕ) → Holds (row (pointAt 3 6 l) (pointAt 3 i k)) (normalIn l)
+    one i = grid-holds (sized-point rl 3 6 refl) (sized-point rk 3 i refl) small
+
+pub lists-hold : (k l : List ℤ) → Narrow k → Narrow l → SidesHold k l
+lists-hold k l nk nl = record { at-p = one 0; at-q = one 3; at-r = one 6 }
+  where
+    corner : (i : ℕ) → Sized narrow (pointAt 3 i l)
+    corner i = sized-within narrow l nl 3 i refl
+
+    one : (i : ℕ) → Holds (row (pointAt 3 6 l) (pointAt 3 i k)) (normalIn l)
+    one i = small-holds (corner 0) (corner 3) (corner 6) (corner 6) (sized-within narrow k nk 3 i refl)
+
+-- The same of the points and the normal that code holds.
+held-so : {p q n a b m : Point} → a ≡ p → b ≡ q → m ≡ n → Holds (row p q) n → Holds (row a b) m
+held-so ep eq en h = record { below = subst (λ (z : ℤ). natAbs z < 2 ^ 63) (sym (λ i. dot (row (ep i) (eq i)) (en i))) (h .below) }
+
+pub sides-held : {k l : List ℤ} {t u : SpaceTriangle} {n : SpacePoint} → SidesHold k l →
     SpaceAt (pointAt 3 0 k) (pointAt 3 3 k) (pointAt 3 6 k) t → SpaceAt (pointAt 3 0 l) (pointAt 3 3 l) (pointAt 3 6 l) u → spatial n ≡ normalIn l →
     Holds (row (spatial (u .r)) (spatial (t .p))) (spatial n) × Holds (row (spatial (u .r)) (spatial (t .q))) (spatial n) × Holds (row (spatial (u .r)) (spatial (t .r))) (spatial n)
-lists-hold k l {t} {u} {n} nk nl at-t at-u e =
-    let st = narrow-triangle k nk at-t in
-    let su = narrow-triangle l nl at-u in
-    rw (e ∙ sym (space-at at-u normalOf)) (
-      small-holds (su .at-p) (su .at-q) (su .at-r) (su .at-r) (st .at-p),
-      small-holds (su .at-p) (su .at-q) (su .at-r) (su .at-r) (st .at-q),
-      small-holds (su .at-p) (su .at-q) (su .at-r) (su .at-r) (st .at-r),
-    )
+sides-held h at-t at-u e =
+    (held-so (at-u .at-r) (at-t .at-p) e (h .at-p), held-so (at-u .at-r) (at-t .at-q) e (h .at-q), held-so (at-u .at-r) (at-t .at-r) e (h .at-r))
 
 -- The level over the plane through c that has the normal of a, b, c.
 pub level-told : {n : Point} (a b c d : Point) → n ≡ normalOf a b c → digit (sign (dot (row c d) n)) ≡ level a b c d
@@ -211,3 +232,28 @@ sized-as-without {n} k e s = subst (Sized n) (sym e) (sized-without k s)
 pub sized-dropped : {n : ℕ} (k : ℕ) {t : SpaceTriangle} {u : PlaneTriangle} →
     PlaneAt (without k (spatial (t .p))) (without k (spatial (t .q))) (without k (spatial (t .r))) u → SizedSpace n t → SizedTriangle n u
 sized-dropped k at s = size-at at (sized-without k (s .at-p)) (sized-without k (s .at-q)) (sized-without k (s .at-r))
+
+-- ---- rows of three doubles
+-- A plane whose numbers are those of the row is the list's.
+pub plane-of-row : (u : List ℤ) {p : Plane} → p .x ∷ p .y ∷ p .z ∷ [] ≡ planeRow u → p ≡ planeIn u
+plane-of-row u e = λ i. record { x = first (e i); y = second (e i); z = third (e i) }
+  where
+    first : List Float → Float
+    first [] = nan
+    first (x ∷ l) = x
+
+    second : List Float → Float
+    second [] = nan
+    second (x ∷ l) = first l
+
+    third : List Float → Float
+    third [] = nan
+    third (x ∷ l) = second l
+
+-- A list of three is what it has at its three places.
+pub three-of : (l : List Float) (d : Float) → length l ≡ 3 → getD l 0 d ∷ getD l 1 d ∷ getD l 2 d ∷ [] ≡ l
+three-of [] d e = absurd (omega arith)
+three-of (x ∷ []) d e = absurd (omega arith)
+three-of (x ∷ y ∷ []) d e = absurd (omega arith)
+three-of (x ∷ y ∷ z ∷ []) d e = refl
+three-of (x ∷ y ∷ z ∷ w ∷ l) d e = absurd (omega arith)

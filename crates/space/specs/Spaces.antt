@@ -9,12 +9,13 @@ use lib.Ieee.{Float}
 use lib.IntN.{ℤ}
 use mir.Val.{boolByte}
 use Rattle.shape.specs.Points.{Point, pointAt}
+use Rattle.shape.specs.Signs.{row}
 use Rattle.shape.specs.Normals.{normalOf}
 use Rattle.shape.specs.SpaceTest.{level, Standing, beside, within, alone, standing, placed, lastSigns}
 use Rattle.estimates.specs.Doubles.{rough, planeOf, farAbove, farBelow}
 use Rattle.estimates.specs.declared.Plane.{Plane}
 use Rattle.exact.specs.Small.{narrow}
-use Rattle.exact.specs.Vectors.{spatial, Sized, minorSize}
+use Rattle.exact.specs.Vectors.{spatial, Sized, minorSize, Holds, normalIn}
 use Rattle.exact.specs.declared.determinant.SpacePoint.{SpacePoint}
 use Rattle.space.specs.declared.meeting.SpaceTriangle.{SpaceTriangle}
 
@@ -61,7 +62,13 @@ pub record IsNormal (t : SpaceTriangle) (n : SpacePoint) : Type 0 where
 abbrev pub IsPlaneOf : SpaceTriangle → Plane → Type 0
 IsPlaneOf t plane = plane ≡ ofSpace (λ a b c. planeOf (rough a) (rough b) (rough c)) t
 
--- All corners of two triangles are so near that 64 bits are enough, where the flag says so.
+-- The sides of the corners of t against the plane of u, nine numbers each, are so small that their low words tell them.
+pub record SidesHold (t u : List ℤ) : Type 0 where
+  pub at-p : Holds (row (pointAt 3 6 u) (pointAt 3 0 t)) (normalIn u)
+  pub at-q : Holds (row (pointAt 3 6 u) (pointAt 3 3 t)) (normalIn u)
+  pub at-r : Holds (row (pointAt 3 6 u) (pointAt 3 6 t)) (normalIn u)
+
+-- All corners of two triangles are so near that low words tell every side, where the flag says so.
 abbrev pub BothSized : Bool → (t u : SpaceTriangle) → Type 0
 BothSized flag t u = flag ≡ true → SizedSpace narrow t × SizedSpace narrow u
 

@@ -20,3 +20,7 @@ pub use signs::crossing;
 pub use signs::estimated_crossing;
 pub use standings::estimated_standing;
 pub use standings::exact_standing;
+pub use standings::kept_standing;
+pub use standings::low_standing;
+pub use standings::normal_in;
+pub use standings::plane_in;

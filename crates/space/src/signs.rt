@@ -1,17 +1,16 @@
-// Two triangles that each have a corner alone: the last two signs, with the corners in the order that the standings ask for. Exactly, in 64 bits where
-// those hold every sum and in two words elsewhere; and by the estimate, which can't always tell.
+// Two triangles that each have a corner alone: the last two signs, with the corners in the order that the standings ask for. Exactly, by their low words
+// where those tell them and else by the estimate first; and by the estimate alone, which can't always tell.
 use crate::meeting::SpaceTriangle;
 use crate::standings::is_sure;
 use estimates::estimate_of;
 use estimates::is_below;
 use exact::SpacePoint;
-use exact::is_narrow;
-use exact::narrow_level;
+use exact::level_over;
+use exact::low_level;
 use exact::normal_at;
 use exact::plane_at;
 use exact::rough_of;
 use exact::space_point;
-use exact::wide_level;
 ghost use mathlib.Core.Path.{_≡_};
 ghost use Prim.Native.Nat.{_≤_};
 ghost use Rattle.shape.specs.Signs.{row};
@@ -59,24 +58,24 @@ fn in_order(numbers: &[i32], s: u32, r: u32) -> SpaceTriangle
 
 // ---- p1 and p2 are alone on the non-negative sides: the triangles meet where neither of the last two signs is above zero
 
-// The two signs in 64 bits, where those hold them, by the normals of their planes. Both are found before either is asked, which spares a branch that
-// no processor guesses.
-fn narrow_signs(t: SpaceTriangle, m: SpacePoint, u: SpaceTriangle, n: SpacePoint) -> bool
+// The two signs by the normals of their planes, where their low words tell them. Both are found before either is asked, which spares a branch that no
+// processor guesses.
+fn low_signs(t: SpaceTriangle, m: SpacePoint, u: SpaceTriangle, n: SpacePoint) -> bool
     requires { ⌜ SizedSpace limit t × SizedSpace limit u × (spatial m ≡ normalOf (spatial (t .p)) (spatial (t .q)) (spatial (u .p))) × (spatial n ≡ normalOf (spatial (t .p)) (spatial (t .r)) (spatial (u .r))) × Holds (row (spatial (u .p)) (spatial (u .q))) (spatial m) × Holds (row (spatial (u .r)) (spatial (u .p))) (spatial n) ⌝ }
     ensures { λ r. ⌜ r ≡ ofSpaces lastSigns t u ⌝ }
 {
-    let one = narrow_level(u.p, m, u.q);
-    let two = narrow_level(u.r, n, u.p);
+    let one = low_level(u.p, m, u.q);
+    let two = low_level(u.r, n, u.p);
     (one != 2) & (two != 2)
 }
 
-// The same in two words.
-fn wide_signs(t: SpaceTriangle, m: SpacePoint, u: SpaceTriangle, n: SpacePoint) -> bool
+// The same of any sides.
+fn exact_signs(t: SpaceTriangle, m: SpacePoint, u: SpaceTriangle, n: SpacePoint) -> bool
     requires { ⌜ SizedSpace limit t × SizedSpace limit u × (spatial m ≡ normalOf (spatial (t .p)) (spatial (t .q)) (spatial (u .p))) × (spatial n ≡ normalOf (spatial (t .p)) (spatial (t .r)) (spatial (u .r))) × Sized minorSize (spatial m) × Sized minorSize (spatial n) ⌝ }
     ensures { λ r. ⌜ r ≡ ofSpaces lastSigns t u ⌝ }
 {
-    let first = wide_level(u.p, m, u.q);
-    let second = wide_level(u.r, n, u.p);
+    let first = level_over(t.p, m, plane_at(t.p, t.q, u.p), u.q);
+    let second = level_over(t.p, n, plane_at(t.p, t.r, u.r), u.p);
     (first != 2) & (second != 2)
 }
 
@@ -91,7 +90,7 @@ fn estimated_signs(t: SpaceTriangle, u: SpaceTriangle) -> u32
     (is_below(x) & is_below(y)) as u32 + 2 * (1 - (is_sure(x) & is_sure(y)) as u32)
 }
 
-// By the sums that are enough: 64 bits where the flag says that all numbers are small or where the normals are; then the estimate; then two words.
+// By their low words where the flag says that all numbers are small, else by the estimate first.
 fn last_signs(narrow: bool, t: SpaceTriangle, u: SpaceTriangle) -> bool
     requires { ⌜ SizedSpace limit t × SizedSpace limit u × BothSized narrow t u ⌝ }
     ensures { λ r. ⌜ r ≡ ofSpaces lastSigns t u ⌝ }
@@ -99,22 +98,15 @@ fn last_signs(narrow: bool, t: SpaceTriangle, u: SpaceTriangle) -> bool
     let m = normal_at(t.p, t.q, u.p);
     let n = normal_at(t.p, t.r, u.r);
     if narrow {
-        return narrow_signs(t, m, u, n);
+        return low_signs(t, m, u, n);
     }
-    if is_narrow(m) & is_narrow(n) {
-        return narrow_signs(t, m, u, n);
-    }
-    let told = estimated_signs(t, u);
-    if told < 2 {
-        return told == 1;
-    }
-    wide_signs(t, m, u, n)
+    exact_signs(t, m, u, n)
 }
 
 // ---- of two lists
 
 // Whether two triangles, nine numbers each, have a point in common, where s is the standing of t and r that of u, and each has a corner alone. The flag
-// says that all numbers are so small that 64 bits are enough.
+// says that all numbers are small.
 pub fn crossing(narrow: bool, t: &[i32], s: u32, u: &[i32], r: u32) -> bool
     requires { ⌜ Ready 9 (now t) × Ready 9 (now u) × Numbered s × Numbered r × BothNarrow narrow (now t) (now u) ⌝ }
     ensures { λ v. ⌜ v ≡ lastSignsBy s r (now (t .entry)) (now (u .entry)) ⌝ }

@@ -1,5 +1,5 @@
-// How a triangle stands to the plane of another, by the three signs of its corners: exactly, in 64 bits where those hold every sum and in two words
-// elsewhere; and by the estimate, which can't always tell.
+// How a triangle stands to the plane of another, by the three signs of its corners: exactly, by their low words where those tell them and else by the
+// estimate first; and by the estimate alone, which can't always tell.
 use crate::meeting::SpaceTriangle;
 use crate::meeting::space_triangle;
 use estimates::Plane;
@@ -7,35 +7,37 @@ use estimates::estimate_of;
 use estimates::is_above;
 use estimates::is_below;
 use exact::SpacePoint;
-use exact::is_narrow;
-use exact::narrow_level;
+use exact::level_over;
+use exact::low_level;
 use exact::rough_of;
-use exact::wide_level;
 ghost use mathlib.Core.Path.{_≡_};
+ghost use mathlib.Core.List.{[], _∷_};
 ghost use Prim.Native.Nat.{_≤_, _<_};
+ghost use lib.ListN.{length};
 ghost use Rattle.shape.specs.Signs.{row};
 ghost use Rattle.shape.specs.SpaceTest.{pattern};
 ghost use Rattle.exact.specs.Grid.{limit, Ready};
-ghost use Rattle.exact.specs.Small.{BothNarrow};
-ghost use Rattle.exact.specs.Vectors.{spatial, Holds, normalIn, planeIn};
-ghost use Rattle.space.specs.Spaces.{SizedSpace, IsNormal, IsPlaneOf, ofSpaces, ofLists, Stands, sure, sureLevel, Guesses};
+ghost use Rattle.exact.specs.Vectors.{spatial, Holds, normalIn, planeIn, planeRow};
+ghost use Rattle.space.specs.Spaces.{SizedSpace, IsNormal, IsPlaneOf, ofSpaces, ofLists, SidesHold, Stands, sure, sureLevel, Guesses};
 
 // ---- exactly
 
-// The three signs of the corners of t against the plane of u, whose normal is n, read as a pattern from 0 to 26, where 64 bits hold them.
-fn narrow_pattern(t: SpaceTriangle, u: SpaceTriangle, n: SpacePoint) -> u32
+// The three signs of the corners of t against the plane of u, whose normal is n, read as a pattern from 0 to 26, where their low words tell them.
+fn low_pattern(t: SpaceTriangle, u: SpaceTriangle, n: SpacePoint) -> u32
     requires { ⌜ SizedSpace limit t × SizedSpace limit u × IsNormal u n × Holds (row (spatial (u .r)) (spatial (t .p))) (spatial n) × Holds (row (spatial (u .r)) (spatial (t .q))) (spatial n) × Holds (row (spatial (u .r)) (spatial (t .r))) (spatial n) ⌝ }
     ensures { λ r. ⌜ (r ≡ ofSpaces pattern t u) × (r ≤ 26) ⌝ }
 {
-    9 * narrow_level(u.r, n, t.p) + 3 * narrow_level(u.r, n, t.q) + narrow_level(u.r, n, t.r)
+    9 * low_level(u.r, n, t.p) + 3 * low_level(u.r, n, t.q) + low_level(u.r, n, t.r)
 }
 
-// The same in two words.
-fn wide_pattern(t: SpaceTriangle, u: SpaceTriangle, n: SpacePoint) -> u32
-    requires { ⌜ SizedSpace limit t × SizedSpace limit u × IsNormal u n ⌝ }
+// The same of any sides, where the plane of u is known in doubles, too.
+fn exact_pattern(t: SpaceTriangle, u: SpaceTriangle, n: SpacePoint, plane: Plane) -> u32
+    requires { ⌜ SizedSpace limit t × SizedSpace limit u × IsNormal u n × IsPlaneOf u plane ⌝ }
     ensures { λ r. ⌜ (r ≡ ofSpaces pattern t u) × (r ≤ 26) ⌝ }
 {
-    9 * wide_level(u.r, n, t.p) + 3 * wide_level(u.r, n, t.q) + wide_level(u.r, n, t.r)
+    9 * level_over(u.p, n, plane, t.p)
+        + 3 * level_over(u.p, n, plane, t.q)
+        + level_over(u.p, n, plane, t.r)
 }
 
 // The number of the standing that a pattern names: 0 beside, with all corners strictly on one side; 1 within, with all on the plane; or one corner is
@@ -80,19 +82,60 @@ fn standing_of(pattern: u32) -> u32
     }
 }
 
-// The standing of t to the plane of u, whose normal is n, nine numbers each. The flag says that all numbers are so small that 64 bits are enough;
-// elsewhere the normal may be.
-pub fn exact_standing(narrow: bool, t: &[i32], u: &[i32], n: SpacePoint) -> u32
-    requires { ⌜ Ready 9 (now t) × Ready 9 (now u) × (spatial n ≡ normalIn (now u)) × BothNarrow narrow (now t) (now u) ⌝ }
+// The standing of t to the plane of u, whose normal is n, nine numbers each, where the low words of the sides tell them.
+pub fn low_standing(t: &[i32], u: &[i32], n: SpacePoint) -> u32
+    requires { ⌜ Ready 9 (now t) × Ready 9 (now u) × (spatial n ≡ normalIn (now u)) × SidesHold (now t) (now u) ⌝ }
     ensures { λ r. ⌜ Stands (ofLists pattern (now (t .entry)) (now (u .entry))) r ⌝ }
 {
-    if narrow {
-        return standing_of(narrow_pattern(space_triangle(t), space_triangle(u), n));
+    standing_of(low_pattern(space_triangle(t), space_triangle(u), n))
+}
+
+// The same of any sides, where the plane of u is known in doubles, too.
+pub fn exact_standing(t: &[i32], u: &[i32], n: SpacePoint, plane: Plane) -> u32
+    requires { ⌜ Ready 9 (now t) × Ready 9 (now u) × (spatial n ≡ normalIn (now u)) × (plane ≡ planeIn (now u)) ⌝ }
+    ensures { λ r. ⌜ Stands (ofLists pattern (now (t .entry)) (now (u .entry))) r ⌝ }
+{
+    standing_of(exact_pattern(space_triangle(t), space_triangle(u), n, plane))
+}
+
+// ---- exactly, by rows that are kept
+
+// The normal that fills a row of three numbers.
+pub fn normal_in(numbers: &[i64]) -> SpacePoint
+    requires { ⌜ length (now numbers) ≡ 3 ⌝ }
+    ensures { λ r. ⌜ spatial r ≡ now (numbers .entry) ⌝ }
+{
+    SpacePoint {
+        x: numbers[0],
+        y: numbers[1],
+        z: numbers[2],
     }
-    if is_narrow(n) {
-        return standing_of(narrow_pattern(space_triangle(t), space_triangle(u), n));
+}
+
+// The plane that fills a row of three doubles.
+pub fn plane_in(numbers: &[f64]) -> Plane
+    requires { ⌜ length (now numbers) ≡ 3 ⌝ }
+    ensures { λ r. ⌜ r .x ∷ r .y ∷ r .z ∷ [] ≡ now (numbers .entry) ⌝ }
+{
+    Plane {
+        x: numbers[0],
+        y: numbers[1],
+        z: numbers[2],
     }
-    standing_of(wide_pattern(space_triangle(t), space_triangle(u), n))
+}
+
+// What `exact_standing` gives, where the normal and the plane of u are kept as rows. It reads them itself and has one caller, so that it is compiled into the
+// loop that asks it: numbers that are stored for a call and read back at once, in other portions, make a processor wait.
+pub fn kept_standing(t: &[i32], u: &[i32], n: &[i64], plane: &[f64]) -> u32
+    requires { ⌜ Ready 9 (now t) × Ready 9 (now u) × (now n ≡ normalIn (now u)) × (now plane ≡ planeRow (now u)) ⌝ }
+    ensures { λ r. ⌜ Stands (ofLists pattern (now (t .entry)) (now (u .entry))) r ⌝ }
+{
+    standing_of(exact_pattern(
+        space_triangle(t),
+        space_triangle(u),
+        normal_in(n),
+        plane_in(plane),
+    ))
 }
 
 // ---- by the estimate

@@ -3,6 +3,10 @@
 //
 // specs/Value.antt gives the one whole number that a pair of words stands for; every function here is proved over it. A pair is told by its value
 // (`told-by-value` in proofs/Told.antt).
+mod low;
+
+pub use low::low_product;
+pub use low::told_by_low;
 ghost use mathlib.Core.Path.{_≡_};
 ghost use Prim.Native.Nat.{_≤_, _^_};
 ghost use lib.IntN.{natAbs, _+ℤ_, _-ℤ_, _*ℤ_};

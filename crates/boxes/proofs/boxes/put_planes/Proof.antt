@@ -4,7 +4,7 @@ use Prim.Native.Nat.{_-_, _*_}
 use native.Mathlib.Omega.{arith}
 use borrow.Author.Needs.{needs}
 use Rattle.algebra.proofs.Parts.{length-lent}
-use Rattle.kernel.specs.Standings.{planeRow}
+use Rattle.exact.specs.Vectors.{planeRow}
 use Rattle.boxes.proofs.Rows.{Written, lent-ready, none-written, one-more}
 use Rattle.boxes.proofs.boxes.put_planes.Statement.{statement}
 use Rattle.boxes.proofs.boxes.put_planes.Tie as tie

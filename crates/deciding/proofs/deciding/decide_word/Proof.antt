@@ -12,7 +12,7 @@ use Rattle.deciding.proofs.deciding.decide_word.Tie as tie
 -- What the first two loops leave, and the next two.
 first-stage : (c : tie.After-stand-exactly) →
     let a = c .before .before .before .before .before .before .before .args in
-    Parted (SortedAt (a .second .now) (a .corners .now) (a .from) 1 0 0 (c .stand-exactly .last .1 .0)) (a .candidates) 0 (c .stand-exactly .result .kept) (c .stand-exactly .result .other)
+    Parted (SortedAt (a .second .now) (a .corners .now) (a .from) 1 0 0 (c .stand-exactly .last .0)) (a .candidates) 0 (c .stand-exactly .result .kept) (c .stand-exactly .result .other)
 first-stage c =
     let seen = c .before .before .before .stand-by-estimate .ensures in
     let found = c .stand-exactly .ensures in
@@ -21,13 +21,13 @@ first-stage c =
 second-stage : (c : tie.After-stand-exactly2) →
     let one = c .before .before .before .before .before .before .stand-exactly .result in
     let a = c .before .before .before .before .before .before .before .before .before .before .before .before .before .args in
-    Parted (SortedAt (a .corners .now) (a .second .now) 0 0 (a .from) 1 (c .stand-exactly2 .last .1 .0)) (one .kept) (one .other) (c .stand-exactly2 .result .kept) (c .stand-exactly2 .result .other)
+    Parted (SortedAt (a .corners .now) (a .second .now) 0 0 (a .from) 1 (c .stand-exactly2 .last .0)) (one .kept) (one .other) (c .stand-exactly2 .result .kept) (c .stand-exactly2 .result .other)
 second-stage c =
     let one = c .before .before .before .before .before .before in
     let p = c .before .before .before .before .before .before .before .before .before .before .before .before .before .pre in
     let seen = c .before .before .before .stand-by-estimate2 .ensures in
     let found = c .stand-exactly2 .ensures in
-    parted-both (seen .0) (seen .1) (seen .2) (kept-clear (p .0 .ready .long) (p .3) (first-stage one)) (found .0) (found .1) (found .2)
+    parted-both (seen .0) (seen .1) (seen .2) (kept-clear (p .0 .ready .long) (p .5) (first-stage one)) (found .0) (found .1) (found .2)
 
 slice-aggregate-stand-by-estimate : tie.Need-slice-aggregate-stand-by-estimate
 slice-aggregate-stand-by-estimate c = search needs
@@ -36,7 +36,7 @@ stand-by-estimate-requires : tie.Need-stand-by-estimate-requires
 stand-by-estimate-requires c κs =
     let p = c .before .before .before .pre in
     let asked = c .before .before .before .args .candidates in
-    (refl, second-lined (p .1) (p .2) (p .3 .small), corners-lined (p .0) asked, corners-planed (p .0) asked)
+    (refl, second-lined (p .2) (p .4) (p .5 .small), corners-lined (p .0) asked, corners-planed (p .0) asked (p .1))
 
 slice-aggregate-stand-exactly : tie.Need-slice-aggregate-stand-exactly
 slice-aggregate-stand-exactly c = search needs
@@ -48,10 +48,10 @@ stand-exactly-requires c κs =
     let seen = c .before .before .stand-by-estimate .ensures in
     let among = open-among (seen .0) (seen .1) (seen .2) (λ z set. bit-of-none z) in (
       seen .0 .long,
-      lined-among among (second-lined (p .1) (p .2) (p .3 .small)),
+      lined-among among (second-lined (p .2) (p .4) (p .5 .small)),
       lined-among among (corners-lined (p .0) asked),
       normalled-among among (corners-normalled (p .0) asked),
-      (λ flag. both flag refl),
+      planed-among among (corners-planed (p .0) asked (p .1)),
       open-clear (seen .0) (seen .1) (seen .2) (λ z set. bit-of-none z),
       (λ z set. bit-of-none z),
     )
@@ -63,11 +63,11 @@ stand-by-estimate-requires-2 : tie.Need-stand-by-estimate-requires-2
 stand-by-estimate-requires-2 c κs =
     let one = c .before .before in
     let p = c .before .before .before .before .before .before .before .before .before .pre in
-    let among = kept-candidates (p .0 .ready .long) (p .3) (first-stage one) in (
+    let among = kept-candidates (p .0 .ready .long) (p .5) (first-stage one) in (
       refl,
       corners-lined (p .0) (one .stand-exactly .result .kept),
-      lined-among among (second-lined (p .1) (p .2) (p .3 .small)),
-      planed-among among (second-planed (p .1) (p .2) (p .3 .small)),
+      lined-among among (second-lined (p .2) (p .4) (p .5 .small)),
+      planed-among among (second-planed (p .2) (p .4) (p .5 .small) (p .3)),
     )
 
 slice-aggregate-stand-exactly-2 : tie.Need-slice-aggregate-stand-exactly-2
@@ -78,15 +78,15 @@ stand-exactly-requires-2 c κs =
     let one = c .before .before .before .before .before in
     let p = c .before .before .before .before .before .before .before .before .before .before .before .before .pre in
     let long = p .0 .ready .long in
-    let clear = kept-clear long (p .3) (first-stage one) in
+    let clear = kept-clear long (p .5) (first-stage one) in
     let seen = c .before .before .stand-by-estimate2 .ensures in
     let open-kept = open-among (seen .0) (seen .1) (seen .2) clear in
-    let among : Among (c .before .before .stand-by-estimate2 .result .other) (c .before .before .before .before .before .before .before .before .before .before .before .before .args .candidates) = λ z set. kept-candidates long (p .3) (first-stage one) z (open-kept z set) in (
+    let among : Among (c .before .before .stand-by-estimate2 .result .other) (c .before .before .before .before .before .before .before .before .before .before .before .before .args .candidates) = λ z set. kept-candidates long (p .5) (first-stage one) z (open-kept z set) in (
       seen .0 .long,
       lined-among open-kept (corners-lined (p .0) (one .stand-exactly .result .kept)),
-      lined-among among (second-lined (p .1) (p .2) (p .3 .small)),
-      normalled-among among (second-normalled (p .1) (p .2) (p .3 .small)),
-      (λ flag. both flag refl),
+      lined-among among (second-lined (p .2) (p .4) (p .5 .small)),
+      normalled-among among (second-normalled (p .2) (p .4) (p .5 .small)),
+      planed-among among (second-planed (p .2) (p .4) (p .5 .small) (p .3)),
       open-clear (seen .0) (seen .1) (seen .2) clear,
       (λ z set. clear z (open-kept z set)),
     )
@@ -103,14 +103,14 @@ cross-by-estimate-requires c κs =
     let one = two .before .before .before .before .before .before in
     let p = c .before .before .before .before .before .before .before .before .before .before .before .before .before .before .before .before .pre in
     let long = p .0 .ready .long in
-    let alone = all-alone long (p .3) (first-stage one) (second-stage two) in (
+    let alone = all-alone long (p .5) (first-stage one) (second-stage two) in (
       p .0 .ready,
       two .stand-exactly2 .ensures .0 .long,
-      lined-among (alone-candidates long (p .3) (first-stage one) (second-stage two)) (second-lined (p .1) (p .2) (p .3 .small)),
+      lined-among (alone-candidates long (p .5) (first-stage one) (second-stage two)) (second-lined (p .2) (p .4) (p .5 .small)),
       one .stand-exactly .ensures .0 .long,
       own-numbered alone,
       standings-numbered alone,
-      alone-clear long (p .3) (first-stage one) (second-stage two),
+      alone-clear long (p .5) (first-stage one) (second-stage two),
     )
 
 slice-aggregate-decide-rest : tie.Need-slice-aggregate-decide-rest
@@ -126,12 +126,12 @@ decide-rest-requires c κs =
     let one = two .before .before .before .before .before .before in
     let p = c .before .before .before .before .before .before .before .before .before .before .before .before .before .before .before .before .before .before .before .pre in
     let long = p .0 .ready .long in
-    let alone = all-alone long (p .3) (first-stage one) (second-stage two) in
-    let stood = all-stood long (p .3) (first-stage one) (second-stage two) in
-    let all = second-lined (p .1) (p .2) (p .3 .small) in (
+    let alone = all-alone long (p .5) (first-stage one) (second-stage two) in
+    let stood = all-stood long (p .5) (first-stage one) (second-stage two) in
+    let all = second-lined (p .2) (p .4) (p .5 .small) in (
       p .0 .ready,
       two .stand-exactly2 .ensures .0 .long,
-      rest-lined alone stood told (lined-among (alone-candidates long (p .3) (first-stage one) (second-stage two)) all) (lined-among (close-candidates long (p .3) (first-stage one) (second-stage two)) all),
+      rest-lined alone stood told (lined-among (alone-candidates long (p .5) (first-stage one) (second-stage two)) all) (lined-among (close-candidates long (p .5) (first-stage one) (second-stage two)) all),
       one .stand-exactly .ensures .0 .long,
       rest-stood alone stood told,
       (λ flag. both flag refl),
@@ -145,8 +145,8 @@ returns c =
     let one = two .before .before .before .before .before .before in
     let p = c .before .before .before .before .before .before .before .before .before .before .before .before .before .before .before .before .before .before .before .before .pre in
     let long = p .0 .ready .long in
-    word-decided long (p .3) (first-stage one) (second-stage two)
-    (judged-rest (all-alone long (p .3) (first-stage one) (second-stage two)) (all-stood long (p .3) (first-stage one) (second-stage two)) told (c .decide-rest .ensures))
+    word-decided long (p .5) (first-stage one) (second-stage two)
+    (judged-rest (all-alone long (p .5) (first-stage one) (second-stage two)) (all-stood long (p .5) (first-stage one) (second-stage two)) told (c .decide-rest .ensures))
 
 pub decide-word-spec : {M : Type 1} → statement M
 decide-word-spec =

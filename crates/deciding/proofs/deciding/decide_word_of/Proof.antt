@@ -10,7 +10,7 @@ use Rattle.deciding.proofs.deciding.decide_word_of.Statement.{statement
 use Rattle.deciding.proofs.deciding.decide_word_of.Tie as tie
 
 returns : tie.Need-returns
-returns c = none-decided (c .before .before .before .pre .4) (c .if1 .taken)
+returns c = none-decided (c .before .before .before .pre .5) (c .if1 .taken)
 
 mul-at : tie.Need-mul-at
 mul-at c = search needs
@@ -48,43 +48,28 @@ part-decide-narrow-word-start-2 c = search needs
 part-decide-narrow-word-end-2 : tie.Need-part-decide-narrow-word-end-2
 part-decide-narrow-word-end-2 c = search needs
 
-add-decide-narrow-word-3 : tie.Need-add-decide-narrow-word-3
-add-decide-narrow-word-3 c = search needs
-
 mul-decide-narrow-word-3 : tie.Need-mul-decide-narrow-word-3
 mul-decide-narrow-word-3 c = search needs
 
-sub-decide-narrow-word-3 : tie.Need-sub-decide-narrow-word-3
-sub-decide-narrow-word-3 c = search needs
-
-part-decide-narrow-word-start-3 : tie.Need-part-decide-narrow-word-start-3
-part-decide-narrow-word-start-3 c = search needs
-
-part-decide-narrow-word-end-3 : tie.Need-part-decide-narrow-word-end-3
-part-decide-narrow-word-end-3 c = search needs
-
-mul-decide-narrow-word-4 : tie.Need-mul-decide-narrow-word-4
-mul-decide-narrow-word-4 c = search needs
-
 decide-narrow-word-requires : tie.Need-decide-narrow-word-requires
 decide-narrow-word-requires c κs =
-    let p = c .before .before .before .before .before .before .before in
+    let p = c .before .before .before .before .before .before in
     let a = p .args in
     let i = a .k / 16 in
-    let inside : i < triangles (a .first .now) = omega (arith, p .pre .3) in
-    let small = p .pre .2 (c .before .before .before .if2 .taken) in
-    rw (part (9 * i) 9 (a .first .now), part (3 * i) 3 (a .normals .now), part (3 * i) 3 (a .planes .now)) (
-      record { ready = p .pre .0 .sound .ready i inside; is-normal = p .pre .0 .normal i inside; is-plane = p .pre .0 .plane i inside },
+    let inside : i < triangles (a .first .now) = omega (arith, p .pre .4) in
+    let small = p .pre .3 (c .before .before .if2 .taken) in
+    rw (part (9 * i) 9 (a .first .now), part (3 * i) 3 (a .normals .now)) (
+      record { ready = p .pre .0 .sound .ready i inside; is-normal = p .pre .0 .normal i inside },
       p .pre .1,
       omega arith,
-      p .pre .4,
+      p .pre .5,
       narrow-nine i (a .first .now) (small .0),
       small .1,
     )
 
 returns-2 : tie.Need-returns-2
 returns-2 c =
-    let a = c .before .before .before .before .before .before .before .before .args in
+    let a = c .before .before .before .before .before .before .before .args in
     rw (← (part (9 * (a .k / 16)) 9 (a .first .now))) (c .decide-narrow-word .ensures)
 
 add-decide-word : tie.Need-add-decide-word
@@ -130,7 +115,10 @@ part-decide-word-start-3 : tie.Need-part-decide-word-start-3
 part-decide-word-start-3 c = search needs
 
 part-decide-word-end-3 : tie.Need-part-decide-word-end-3
-part-decide-word-end-3 c = search needs
+part-decide-word-end-3 c =
+    let left = c .before .before in
+    let room = left .before .before .before .before .pre .2 (left .if2 .left) .0 .room in
+    search (needs, room)
 
 mul-decide-word-4 : tie.Need-mul-decide-word-4
 mul-decide-word-4 c = search needs
@@ -140,12 +128,15 @@ decide-word-requires c κs =
     let p = c .before .before .before .before .before .before .before in
     let a = p .args in
     let i = a .k / 16 in
-    let inside : i < triangles (a .first .now) = omega (arith, p .pre .3) in
+    let inside : i < triangles (a .first .now) = omega (arith, p .pre .4) in
+    let planned = p .pre .2 (c .before .before .before .if2 .left) in
     rw (part (9 * i) 9 (a .first .now), part (3 * i) 3 (a .normals .now), part (3 * i) 3 (a .planes .now)) (
-      record { ready = p .pre .0 .sound .ready i inside; is-normal = p .pre .0 .normal i inside; is-plane = p .pre .0 .plane i inside },
+      record { ready = p .pre .0 .sound .ready i inside; is-normal = p .pre .0 .normal i inside },
+      planned .0 .plane i inside,
       p .pre .1,
+      planned .1,
       omega arith,
-      p .pre .4,
+      p .pre .5,
     )
 
 returns-3 : tie.Need-returns-3
@@ -170,12 +161,7 @@ decide-word-of-spec =
     sub-decide-narrow-word-2
     part-decide-narrow-word-start-2
     part-decide-narrow-word-end-2
-    add-decide-narrow-word-3
     mul-decide-narrow-word-3
-    sub-decide-narrow-word-3
-    part-decide-narrow-word-start-3
-    part-decide-narrow-word-end-3
-    mul-decide-narrow-word-4
     decide-narrow-word-requires
     returns-2
     add-decide-word

@@ -4,22 +4,22 @@ use Prim.Native.Nat.{ℕ}
 use native.Mathlib.Omega.{arith}
 use Rattle.words.proofs.LowestLaws.{lowest-found, lowest-is-set, rest-less}
 use Rattle.words.proofs.Filling.{filled-place, filled-fits}
-use Rattle.deciding.specs.Stages.{indexOf, StandsAt, isAlone, isWithin}
-use Rattle.deciding.proofs.StageLaws.{Sorting, both-narrow-nine, sorting-starts, sorting-on, sorting-ends}
+use Rattle.deciding.specs.Stages.{StandsAt, isAlone, isWithin}
+use Rattle.deciding.proofs.StageLaws.{Sorting, sorting-starts, sorting-on, sorting-ends}
 use borrow.Author.Needs.{needs}
 use Rattle.deciding.proofs.standings.stand_exactly.Statement.{statement}
 use Rattle.deciding.proofs.standings.stand_exactly.Tie as tie
 
 abbrev Inv-loop : tie.InvT-loop
-Inv-loop narrow standings₀ t start step u base stride normals asked sure close kept₀ other₀ left₀ standings kept other left =
+Inv-loop standings₀ t start step u base stride normals planes asked sure close kept₀ other₀ left₀ standings kept other left =
     Sorting (StandsAt t u start step base stride) isAlone isWithin asked sure close standings₀ left standings kept other
 
 abbrev μ-loop : tie.MeasureT-loop
-μ-loop narrow standings₀ t start step u base stride normals asked sure close kept₀ other₀ left₀ standings kept other left = left
+μ-loop standings₀ t start step u base stride normals planes asked sure close kept₀ other₀ left₀ standings kept other left = left
 
 loop-holds : tie.Need-loop-holds Inv-loop μ-loop
 loop-holds c =
-    let p = c .before .pre in
+    let p = c .before .before .pre in
     sorting-starts (p .0) (p .5) (p .6)
 
 without-lowest-requires : tie.Need-without-lowest-requires Inv-loop μ-loop
@@ -30,24 +30,23 @@ lowest-of-requires c κs = search needs
 
 index-of-requires : tie.Need-index-of-requires Inv-loop μ-loop
 index-of-requires c κs =
-    let p = c .before .before .before .before .before .pre in
+    let p = c .before .before .before .before .before .before .pre in
     (p .1 .few, p .1 .single, c .lowest-of .ensures .1)
 
 index-of-requires-2 : tie.Need-index-of-requires-2 Inv-loop μ-loop
 index-of-requires-2 c κs =
-    let p = c .before .before .before .before .before .before .pre in
+    let p = c .before .before .before .before .before .before .before .pre in
     (p .2 .few, p .2 .single, c .before .lowest-of .ensures .1)
 
 exact-at-requires : tie.Need-exact-at-requires Inv-loop μ-loop
 exact-at-requires c κs =
     let place = c .before .before in
-    let a = place .before .before .before .before .before .args in
-    let p = place .before .before .before .before .before .pre in
+    let p = place .before .before .before .before .before .before .pre in
     let low = lowest-found (place .lowest-of .ensures .0) (place .before .without-lowest .ensures) in
     let z = place .lowest-of .result in
     let set = place .before .before .before .loop .inv .by-first .still-asked z (lowest-is-set low) in
     rw (c .before .index-of .ensures, c .index-of2 .ensures)
-    (p .1 .there z set, p .1 .ready z set, p .2 .there z set, p .2 .ready z set, p .3 .room z set, p .3 .normal z set, both-narrow-nine (a .narrow) (a .t .now) (a .u .now) (indexOf (a .start) (a .step) z) (indexOf (a .base) (a .stride) z) (p .4))
+    (p .1 .there z set, p .1 .ready z set, p .2 .there z set, p .2 .ready z set, p .3 .room z set, p .3 .normal z set, p .4 .room z set, p .4 .plane z set)
 
 cast-standings : tie.Need-cast-standings Inv-loop μ-loop
 cast-standings c = search needs
@@ -65,8 +64,9 @@ add-kept : tie.Need-add-kept Inv-loop μ-loop
 add-kept c =
     let found = c .before in
     let place = found .before .before .before in
+    let s = place .before .before .before .before .before .before in
     let low = lowest-found (place .lowest-of .ensures .0) (place .before .without-lowest .ensures) in
-    omega (arith, c .flag-at .ensures, filled-fits (isAlone (found .exact-at .result)) (place .before .before .before .loop .inv .by-first) low 64 (omega arith) (omega arith))
+    omega (arith, c .flag-at .ensures, filled-fits (isAlone (found .exact-at .result)) (place .before .before .before .loop .inv .by-first) low 64 (omega (arith, s .fits .sure .fits)) (omega (arith, s .fits .asked .fits)))
 
 flag-at-requires-2 : tie.Need-flag-at-requires-2 Inv-loop μ-loop
 flag-at-requires-2 c κs = search needs
@@ -75,8 +75,9 @@ add-other : tie.Need-add-other Inv-loop μ-loop
 add-other c =
     let found = c .before .before in
     let place = found .before .before .before in
+    let s = place .before .before .before .before .before .before in
     let low = lowest-found (place .lowest-of .ensures .0) (place .before .without-lowest .ensures) in
-    omega (arith, c .flag-at2 .ensures, filled-fits (isWithin (found .exact-at .result)) (place .before .before .before .loop .inv .by-second) low 64 (omega arith) (omega arith))
+    omega (arith, c .flag-at2 .ensures, filled-fits (isWithin (found .exact-at .result)) (place .before .before .before .loop .inv .by-second) low 64 (omega (arith, s .fits .close .fits)) (omega (arith, s .fits .asked .fits)))
 
 loop-less : tie.Need-loop-less Inv-loop μ-loop
 loop-less c = rest-less (c .before .before .before .before .before .before .without-lowest .ensures)
@@ -97,7 +98,7 @@ same-length c = search needs
 returns : tie.Need-returns Inv-loop μ-loop
 returns c =
     let l = c .before .loop in
-    let a = c .before .before .before .args in
+    let a = c .before .before .before .before .args in
     let none = subst (λ (k : ℕ). Sorting (StandsAt (a .t .now) (a .u .now) (a .start) (a .step) (a .base) (a .stride)) isAlone isWithin (a .asked) (a .sure) (a .close) (a .standings .now) k (l .standings) (l .kept) (l .other)) (c .loop-test .left) (l .inv) in
     sorting-ends {f = isAlone} {g = isWithin} none
 

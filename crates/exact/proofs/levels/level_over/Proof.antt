@@ -1,11 +1,12 @@
--- `exact::levels::level_over` meets its contract: an estimate that is far from zero has the sign of the side, and elsewhere the exact level is asked.
--- Assumes nothing.
-use mathlib.Core.Path.{sym, _∙_}
-use native.Mathlib.Omega.{arith}
-use borrow.Author.Needs.{needs}
+-- `exact::levels::level_over` meets its contract: an estimate that is far from zero has the sign of the side, and elsewhere the side is so small that its low word
+-- tells it. Assumes nothing.
+use mathlib.Core.Path.{sym, subst, _∙_}
+use Prim.Native.Nat.{ℕ, _≤_}
+use Rattle.estimates.specs.Doubles.{farAbove, farBelow}
 use Rattle.estimates.proofs.Told.{Told}
 use Rattle.exact.specs.Vectors.{spatial}
-use Rattle.exact.proofs.LevelLaws.{level-from-first, estimate-told, far-above, far-below}
+use Rattle.exact.proofs.LevelLaws.{level-from-first, estimate-told, told-first, told-first-small, side-held}
+use borrow.Author.Needs.{needs}
 use Rattle.exact.proofs.levels.level_over.Statement.{statement}
 use Rattle.exact.proofs.levels.level_over.Tie as tie
 
@@ -27,37 +28,26 @@ rough-of-requires-2 c κs = search needs
 estimate-of-requires : tie.Need-estimate-of-requires
 estimate-of-requires c κs = search needs
 
-is-above-requires : tie.Need-is-above-requires
-is-above-requires c κs = search needs
+low-level-requires : tie.Need-low-level-requires
+low-level-requires c κs = search needs
+
+told-first-requires : tie.Need-told-first-requires
+told-first-requires c κs = search needs
 
 returns : tie.Need-returns
 returns c =
-    let e = c .before .before in
+    let low = c .before in
+    let e = low .before in
     let s = e .before .before .before in
-    let plane = s .pre .3 in (
-      far-above (tells e) (c .before .is-above .ensures) (c .if1 .taken)
-          ∙ sym (level-from-first (spatial (s .args .a)) (plane .b) (plane .c) (spatial (s .args .d)) (plane .normal-is)),
-      omega arith,
+    let plane = s .pre .3 in
+    let a = spatial (s .args .a) in
+    let d = spatial (s .args .d) in
+    let is-level = level-from-first a (plane .b) (plane .c) d (plane .normal-is) in (
+      c .told-first .ensures
+          ∙ told-first (tells e) (λ small. low .low-level .ensures .0 (side-held a (plane .b) (plane .c) d (plane .normal-is) small) ∙ is-level)
+          ∙ sym is-level,
+      subst (λ (n : ℕ). n ≤ 2) (sym (c .told-first .ensures)) (told-first-small (farAbove (e .estimate-of .result)) (farBelow (e .estimate-of .result)) (low .low-level .result) (low .low-level .ensures .1)),
     )
-
-is-below-requires : tie.Need-is-below-requires
-is-below-requires c κs = search needs
-
-returns-2 : tie.Need-returns-2
-returns-2 c =
-    let e = c .before .before .before .before in
-    let s = e .before .before .before in
-    let plane = s .pre .3 in (
-      far-below (tells e) (c .before .is-below .ensures) (c .if2 .taken)
-          ∙ sym (level-from-first (spatial (s .args .a)) (plane .b) (plane .c) (spatial (s .args .d)) (plane .normal-is)),
-      omega arith,
-    )
-
-exact-level-requires : tie.Need-exact-level-requires
-exact-level-requires c κs = search needs
-
-returns-3 : tie.Need-returns-3
-returns-3 c = c .exact-level .ensures
 
 pub level-over-spec : {M : Type 1} → statement M
 level-over-spec =
@@ -66,9 +56,6 @@ level-over-spec =
     rough-of-requires
     rough-of-requires-2
     estimate-of-requires
-    is-above-requires
-    returns
-    is-below-requires
-    returns-2
-    exact-level-requires
-    returns-3)
+    low-level-requires
+    told-first-requires
+    returns)

@@ -1,7 +1,7 @@
 -- `kernel::meeting::estimated_standing` meets its contract: the plane is that of the list. Assumes nothing.
 use mathlib.Core.Path.{ap, _∙_}
 use lib.ListN.{length}
-use Rattle.kernel.proofs.Stages.{plane-of-row}
+use Rattle.space.proofs.SpaceLaws.{plane-of-row}
 use Rattle.kernel.proofs.meeting.estimated_standing.Statement.{statement}
 use Rattle.kernel.proofs.meeting.estimated_standing.Tie as tie
 

@@ -1,8 +1,8 @@
--- `kernel::meeting::plane_in` meets its contract: three numbers are read. Assumes nothing.
+-- `space::standings::plane_in` meets its contract: three numbers are read. Assumes nothing.
 use borrow.Author.Needs.{needs}
-use Rattle.kernel.proofs.Stages.{three-of}
-use Rattle.kernel.proofs.meeting.plane_in.Statement.{statement}
-use Rattle.kernel.proofs.meeting.plane_in.Tie as tie
+use Rattle.space.proofs.SpaceLaws.{three-of}
+use Rattle.space.proofs.standings.plane_in.Statement.{statement}
+use Rattle.space.proofs.standings.plane_in.Tie as tie
 
 shared-slice-read-t3 : tie.Need-shared-slice-read-t3
 shared-slice-read-t3 c = search needs

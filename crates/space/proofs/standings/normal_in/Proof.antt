@@ -1,8 +1,8 @@
--- `kernel::meeting::normal_in` meets its contract: three numbers are read. Assumes nothing.
+-- `space::standings::normal_in` meets its contract: three numbers are read. Assumes nothing.
 use borrow.Author.Needs.{needs}
 use Rattle.exact.proofs.Readings.{three-read}
-use Rattle.kernel.proofs.meeting.normal_in.Statement.{statement}
-use Rattle.kernel.proofs.meeting.normal_in.Tie as tie
+use Rattle.space.proofs.standings.normal_in.Statement.{statement}
+use Rattle.space.proofs.standings.normal_in.Tie as tie
 
 shared-slice-copy-out-t3 : tie.Need-shared-slice-copy-out-t3
 shared-slice-copy-out-t3 c = search needs
