@@ -16,8 +16,8 @@
 //! `bench/run` says how it is called, and which arguments go together.
 //!
 //! Exit status: 0 all agree; 1 two answers differ, or a ratio of the door is above what --at-most
-//! allows for the pairs and the segments, or with --goals above the goal of the pairs, the bytes, a
-//! listing, a plate or a sheet, or an estimate is farther from its side than it may be; 2 bad arguments.
+//! allows for the pairs and the segments, or with --goals above its goal, or an estimate is farther from
+//! its side than it may be, or a side that is left to its low word larger than it may be; 2 bad arguments.
 
 mod bytes;
 mod door;
@@ -52,7 +52,7 @@ struct Asked {
     sheets: bool,
     /// The highest ratio that is allowed for the pairs and the segments.
     at_most: Option<f64>,
-    /// Whether all that is timed, but for the segments, has to reach its goal.
+    /// Whether all that is timed has to reach its goal.
     goals: bool,
 }
 
@@ -80,7 +80,7 @@ fn main() -> ExitCode {
         all_well &= told(bytes::compare_and_time(asked.goals));
     }
     if asked.segments {
-        all_well &= told(verdicts::segments(at_most));
+        all_well &= told(verdicts::segments(at_most, asked.goals));
     }
     if asked.listings {
         all_well &= told(listings::compare_and_time(asked.goals));

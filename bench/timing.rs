@@ -3,8 +3,8 @@
 use std::io::Write;
 use std::time::Duration;
 
-/// The highest ratios to the ordinary 128-bit code that the door should have on an input: on the smaller scale, where 64
-/// bits hold more of the sums, and on the larger, where an estimate in doubles spares most sums of two words.
+/// The highest ratios to the ordinary 128-bit code that the door should have on an input: on the smaller scale, where
+/// exact sums of 64 bits tell more of the signs, and on the larger, where an estimate in doubles tells most of them.
 pub type Goals = [f64; 2];
 /// What stands for the time of 64-bit code where it would overflow, and so is not asked.
 const NOT_ASKED: f64 = f64::INFINITY;

@@ -8,15 +8,18 @@ use crate::scaling::compare_scaled;
 use crate::timing::{best_of, nanoseconds_each, narrow_time, say, told_narrow, Goals};
 use std::hint::black_box;
 
-/// The goals of the pairs, kind by kind. Of the tiny grid many sides are zero: where it is scaled, sums of two words tell
-/// them, after estimates that are made in vain.
+/// The goals of the pairs, kind by kind. Of the tiny grid many sides are zero: where it is scaled, low words tell them,
+/// after estimates that are made in vain.
 const PAIRS_GOALS: [Goals; KINDS] = [[0.5; 2], [0.5; 2], [0.5, 0.85]];
-/// What is timed without goals has such as are always reached, and none is printed.
-const NO_GOALS: [Goals; KINDS] = [[f64::INFINITY; 2]; KINDS];
+/// Those of the segments.
+const SEGMENTS_GOALS: [Goals; KINDS] = [[0.7; 2]; KINDS];
 pub const ROUNDS: usize = 101;
 /// The pairs that are timed, and the faulty ones, come from these seeds.
 pub const PAIRS_SEEDS: [u64; KINDS] = [1, 2, 3];
 pub const FAULTY_PAIRS_SEED: u64 = 4;
+/// The same of the segments.
+pub const SEGMENTS_SEEDS: [u64; KINDS] = [16, 17, 18];
+const FAULTY_SEGMENTS_SEED: u64 = 19;
 
 /// The last line to print. It is an error where two answers differ, or a ratio is higher than is allowed
 /// or, where each goal has to be reached, than its goal.
@@ -32,17 +35,17 @@ pub fn pairs(at_most: f64, goals: bool) -> Result<String, String> {
     call.last_line(&ratios, at_most, goals)
 }
 
-/// The same of the segments, which have no goals.
-pub fn segments(at_most: f64) -> Result<String, String> {
+/// The same of the segments.
+pub fn segments(at_most: f64, goals: bool) -> Result<String, String> {
     let call = Call {
         name: "segment",
-        goals: NO_GOALS,
+        goals: SEGMENTS_GOALS,
         door: door::segment,
         wide: ordinary::segment::<i128>,
         narrow: ordinary::segment::<i64>,
     };
-    let ratios = call.compare_and_time::<SEGMENT_NUMBERS>([16, 17, 18], 19)?;
-    call.last_line(&ratios, at_most, false)
+    let ratios = call.compare_and_time::<SEGMENT_NUMBERS>(SEGMENTS_SEEDS, FAULTY_SEGMENTS_SEED)?;
+    call.last_line(&ratios, at_most, goals)
 }
 
 /// A call of the door, and the ordinary test that does the same, with 128-bit and with 64-bit numbers. The
@@ -129,13 +132,8 @@ impl<Door: Test, Wide: Test, Narrow: Test> Call<Door, Wide, Narrow> {
             ]
         });
         let ratio = door / wide;
-        let told_goal = if goal.is_finite() {
-            format!(", goal {goal}")
-        } else {
-            String::new()
-        };
         say(&format!(
-            "{}: door {door:.1} ns a {}, 128-bit {wide:.1} ns, ratio {ratio:.3}{told_goal} ({}; meeting {:.0} in 100)",
+            "{}: door {door:.1} ns a {}, 128-bit {wide:.1} ns, ratio {ratio:.3}, goal {goal} ({}; meeting {:.0} in 100)",
             input.name,
             self.name,
             told_narrow(narrow, wide, 2),

@@ -1,8 +1,19 @@
-//! Which signs the pair call and the listing take of a pair of triangles, in their order. The corners p1, q1, r1 and
-//! p2, q2, r2 are document 000's.
+//! Which signs the pair call, the listing and the segment call take, in their order, and for which of them they ask an
+//! estimate. The corners p1, q1, r1 and p2, q2, r2 of two triangles are document 000's.
 
-use super::sides::{sides_over, Triangle};
-use super::tally::{Tally, Way};
+use super::sides::{sides_over, Segment, Side, Triangle};
+use super::tally::Tally;
+
+/// The calls on two triangles, by when they ask an estimate.
+#[derive(Clone, Copy)]
+pub enum Way {
+    /// The pair call: of a standing where the normal is not narrow, and of the last signs always.
+    Pair,
+    /// A listing whose numbers all lie within NARROW: never.
+    NarrowListing,
+    /// Another listing: always.
+    WideListing,
+}
 
 /// How a triangle stands to the plane of another.
 enum Standing {
@@ -19,6 +30,8 @@ struct Alone {
     /// Whether that side is the negative one.
     below: bool,
 }
+
+// ---- Two triangles ----
 
 /// The first triangle is asked first, and the second also where the first is in its plane.
 pub fn pair_call(tally: &mut Tally, first: Triangle, second: Triangle) -> Result<(), String> {
@@ -47,7 +60,7 @@ pub fn listed_pair(tally: &mut Tally, way: Way, first: Triangle, second: Triangl
 /// How a triangle stands to the plane of the other. Alone is the first corner whose side no other corner is on; if there
 /// is none, two corners are on one side, and alone is the third, which is on the plane.
 fn standing(tally: &mut Tally, way: Way, triangle: Triangle, other: Triangle) -> Result<Standing, String> {
-    let signs = tally.signs(way, sides_over(other, triangle))?;
+    let signs = standing_signs(tally, way, sides_over(other, triangle))?;
     let [sign, ..] = signs;
     if signs == [sign; 3] {
         return Ok(if sign == 0 { Standing::Within } else { Standing::Beside });
@@ -66,6 +79,15 @@ fn standing(tally: &mut Tally, way: Way, triangle: Triangle, other: Triangle) ->
     Ok(Standing::Across(alone))
 }
 
+/// The signs of three corners, whose sides are over one plane.
+fn standing_signs(tally: &mut Tally, way: Way, sides: [Side; 3]) -> Result<[i128; 3], String> {
+    match way {
+        Way::NarrowListing => tally.signs_by_low_words(sides),
+        Way::Pair if sides[0].has_narrow_normal() => tally.signs_by_low_words(sides),
+        Way::Pair | Way::WideListing => tally.signs_by_estimate(sides),
+    }
+}
+
 /// [p1,q1,p2,q2] and [p1,r1,r2,p2], where each triangle has a corner alone.
 fn last_signs(
     tally: &mut Tally,
@@ -76,7 +98,10 @@ fn last_signs(
     let [p1, q1, r1] = reordered(first, of_first.corner, of_second.below);
     let [p2, q2, r2] = reordered(second, of_second.corner, of_first.below);
     let [[one], [two]] = [sides_over([p1, q1, p2], [q2]), sides_over([p1, r1, r2], [p2])];
-    tally.signs(way, [one, two])?;
+    match way {
+        Way::NarrowListing => tally.signs_by_low_words([one, two])?,
+        Way::Pair | Way::WideListing => tally.signs_by_estimate([one, two])?,
+    };
     Ok(())
 }
 
@@ -88,4 +113,26 @@ fn reordered(triangle: Triangle, first_corner: usize, are_swapped: bool) -> Tria
     } else {
         [p, q, r]
     }
+}
+
+// ---- A segment and a triangle ----
+
+/// The estimate is asked for every sign. Where both ends are strictly on one side of the triangle's plane, or both in
+/// it, no sign more is counted; else the segment comes through the plane.
+pub fn segment_call(tally: &mut Tally, [p, q]: Segment, triangle: Triangle) -> Result<(), String> {
+    let [of_p, of_q] = tally.signs_by_estimate(sides_over(triangle, [p, q]))?;
+    if of_p == of_q {
+        return Ok(());
+    }
+    let from_higher_end = if of_p < of_q { [q, p] } else { [p, q] };
+    edge_signs(tally, from_higher_end, triangle)
+}
+
+/// The signs that tell whether a segment passes an edge on the outside. The plane through the segment and the
+/// triangle's first corner serves two edges.
+fn edge_signs(tally: &mut Tally, [high, low]: Segment, [a, b, c]: Triangle) -> Result<(), String> {
+    let [one, two] = sides_over([high, low, a], [b, c]);
+    let [three] = sides_over([high, low, b], [c]);
+    tally.signs_by_estimate([one, two, three])?;
+    Ok(())
 }

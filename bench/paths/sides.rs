@@ -1,13 +1,18 @@
 //! The side [a,b,c,d], the determinant whose rows are a - d, b - d, c - d: as it is, in whole numbers of 128 bits,
-//! and its estimate, by the same formula in doubles.
+//! and its estimate, by the same formula in doubles; and the limits that the library relies on.
 
 use std::ops::{Add, Mul, Sub};
 
 pub type Point = [i32; 3];
+pub type Segment = [Point; 2];
 pub type Triangle = [Point; 3];
 
 /// On the grid no estimate is farther than this from its side: 15 * 2^40.
 pub const BOUND: i128 = 15 << 40;
+/// No side is larger than this, in size, whose estimate is not sure: 30 * 2^40, twice the bound.
+pub const LARGEST_IN_DOUBT: i128 = 30 << 40;
+/// No side is larger than this, in size, that its low word tells: 2^63 - 1.
+pub const LARGEST_LOW: i128 = i64::MAX as i128;
 /// Where no component of a normal is larger than this, in size, three products with differences, which are at most
 /// 2^31, have a sum that fits 64 bits: (2^63 - 1) / (3 * 2^31).
 const NARROW_NORMAL: i128 = 1_431_655_765;
@@ -65,7 +70,7 @@ pub fn sides_over<const N: usize>(corners: Triangle, points: [Point; N]) -> [Sid
 }
 
 impl Side {
-    /// Whether 64 bits hold the sum that the side is.
+    /// Whether the low word tells the side of every point over this plane.
     pub fn has_narrow_normal(&self) -> bool {
         self.has_narrow_normal
     }
@@ -82,16 +87,36 @@ impl Side {
     /// How far the estimate is from the side. An error where that is too far, or where the sign of a sure estimate is
     /// not the side's.
     pub fn checked_error(&self) -> Result<i128, String> {
-        // An estimate is whole, since what is rounded is, and at most some 2^95.
-        let error = (self.estimate as i128 - self.value).abs();
+        let error = (self.whole_estimate() - self.value).abs();
         let is_told_wrong = self.is_sure() && self.estimate.signum() as i128 != self.sign();
         if error > BOUND || is_told_wrong {
-            let (corners, d) = (self.corners, self.d);
             return Err(format!(
-                "the estimate is wrong:\n  plane of {corners:?}\n  point {d:?}\n  side {}\n  estimate {}\n  apart {error}, at most {BOUND} is allowed",
-                self.value, self.estimate as i128,
+                "the estimate is wrong:\n{}\n  apart {error}, at most {BOUND} is allowed",
+                self.told()
             ));
         }
         Ok(error)
+    }
+
+    /// An error where a side that is left to its low word is larger than this, in size.
+    pub fn check_low(&self, largest: i128) -> Result<(), String> {
+        if self.value.abs() > largest {
+            return Err(format!(
+                "a side that is left to its low word is too large:\n{}\n  in size at most {largest} is allowed",
+                self.told()
+            ));
+        }
+        Ok(())
+    }
+
+    /// An estimate is whole, since what is rounded is, and at most some 2^95.
+    fn whole_estimate(&self) -> i128 {
+        self.estimate as i128
+    }
+
+    fn told(&self) -> String {
+        let (corners, d) = (self.corners, self.d);
+        let (value, estimate) = (self.value, self.whole_estimate());
+        format!("  plane of {corners:?}\n  point {d:?}\n  side {value}\n  estimate {estimate}")
     }
 }

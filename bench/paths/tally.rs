@@ -1,34 +1,20 @@
 //! How many signs were told on which path, and how near the estimates were to their sides.
 
-use super::sides::{Side, BOUND};
+use super::sides::{Side, BOUND, LARGEST_IN_DOUBT, LARGEST_LOW};
 
 /// What tells a sign.
 enum Path {
-    /// 64 bits, since both lists lie within NARROW.
-    NarrowLists,
-    /// 64 bits, since the normal is small.
-    NarrowNormal,
+    /// The low word of the side, and no estimate is asked.
+    LowWord,
     Estimate,
-    TwoWords,
+    /// The low word of the side, since the estimate is not sure.
+    LowWordAfterEstimate,
 }
 
 /// The names of the paths, in their order.
-const PATHS: [&str; 4] = ["narrow lists", "narrow normal", "estimate", "two words"];
+const PATHS: [&str; 3] = ["low words", "estimate", "low words after it"];
 /// A smaller part of the bound is not told.
 const LEAST_PART: f64 = 0.0001;
-
-/// How signs are told that are wanted at once.
-#[derive(Clone, Copy)]
-pub enum Way {
-    /// In the pair call: by 64 bits where the normals are narrow, else by the estimates, and where one of these is not
-    /// sure, by two words.
-    Pair,
-    /// In a listing whose numbers all lie within NARROW: by 64 bits.
-    NarrowListing,
-    /// In another listing: by the estimates, and where one of these is not sure, by 64 bits where the normals are
-    /// narrow, else by two words.
-    WideListing,
-}
 
 #[derive(Default)]
 pub struct Tally {
@@ -39,33 +25,35 @@ pub struct Tally {
 }
 
 impl Tally {
-    /// The signs of sides that are wanted at once. All are counted on one path.
-    pub fn signs<const N: usize>(&mut self, way: Way, sides: [Side; N]) -> Result<[i128; N], String> {
-        let are_narrow = sides.iter().all(Side::has_narrow_normal);
-        let path = match way {
-            Way::NarrowListing => Path::NarrowLists,
-            Way::Pair if are_narrow => Path::NarrowNormal,
-            Way::Pair | Way::WideListing => {
-                if self.are_sure(&sides)? {
-                    Path::Estimate
-                } else if are_narrow {
-                    Path::NarrowNormal
-                } else {
-                    Path::TwoWords
-                }
-            }
-        };
-        self.told[path as usize] += N as u64;
+    /// Signs that low words tell, without an estimate.
+    pub fn signs_by_low_words<const N: usize>(&mut self, sides: [Side; N]) -> Result<[i128; N], String> {
+        for side in &sides {
+            side.check_low(LARGEST_LOW)?;
+            self.told[Path::LowWord as usize] += 1;
+        }
         Ok(sides.map(|side| side.sign()))
     }
 
-    /// Makes the estimates of these sides and compares each with its side. Whether all are sure.
-    fn are_sure(&mut self, sides: &[Side]) -> Result<bool, String> {
-        for side in sides {
-            self.largest_error = self.largest_error.max(side.checked_error()?);
-            self.estimates += 1;
+    /// Signs for which the estimate is asked first. Most often the library asks several estimates at once whether all
+    /// are sure, and sign by sign where one is not; a sure one tells its sign either way, and is compared once.
+    pub fn signs_by_estimate<const N: usize>(&mut self, sides: [Side; N]) -> Result<[i128; N], String> {
+        for side in &sides {
+            let path = self.path_by_estimate(side)?;
+            self.told[path as usize] += 1;
         }
-        Ok(sides.iter().all(Side::is_sure))
+        Ok(sides.map(|side| side.sign()))
+    }
+
+    /// Makes the estimate of a side and compares it with the side. An error, too, where the side is larger than one
+    /// can be whose estimate is not sure.
+    fn path_by_estimate(&mut self, side: &Side) -> Result<Path, String> {
+        self.largest_error = self.largest_error.max(side.checked_error()?);
+        self.estimates += 1;
+        if side.is_sure() {
+            return Ok(Path::Estimate);
+        }
+        side.check_low(LARGEST_IN_DOUBT)?;
+        Ok(Path::LowWordAfterEstimate)
     }
 
     pub fn add(&mut self, other: &Tally) {

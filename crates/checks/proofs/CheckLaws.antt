@@ -2,8 +2,8 @@
 -- taken apart. Assumes nothing.
 use mathlib.Core.Path.{_≡_, refl, ap, _∙_}
 use mathlib.Core.Bool.{Bool, true, false, cond}
-use mathlib.Core.List.{List, [], _∷_}
-use Prim.Native.Nat.{ℕ, zero, suc, _≤_}
+use mathlib.Core.List.{List}
+use Prim.Native.Nat.{ℕ, _≤_}
 use native.Mathlib.Omega.{arith}
 use borrow.Author.Tests.{eqb-true, eqb-false, ltb-true, ltb-false}
 use lib.Dec.{eqb, ltb}
@@ -13,6 +13,7 @@ use Rattle.shape.specs.Points.{Shape}
 use Rattle.shape.specs.Flat.{Flat, isFlat}
 use Rattle.shape.specs.Verdicts.{Says}
 use Rattle.shape.proofs.FlatLaws.{is-flat}
+use Rattle.exact.proofs.GridLaws.{small-taken, small-dropped}
 use Rattle.checks.specs.Answers.{refused, fine}
 use Rattle.exact.specs.Grid.{limit, Ready}
 use Rattle.checks.specs.Grid.{lowestOff, allOn}
@@ -61,15 +62,10 @@ OnGrid l = (i : ℕ) → natAbs (getD l i (pos 0)) ≤ limit
 
 -- So is every number of a part of such a list.
 pub on-take : (n : ℕ) (l : List ℤ) → OnGrid l → OnGrid (take n l)
-on-take zero l on k = omega arith
-on-take (suc n) [] on k = omega arith
-on-take (suc n) (x ∷ l) on zero = on 0
-on-take (suc n) (x ∷ l) on (suc k) = on-take n l (λ i. on (suc i)) k
+on-take = small-taken limit
 
 pub on-drop : (n : ℕ) (l : List ℤ) → OnGrid l → OnGrid (drop n l)
-on-drop zero l on = on
-on-drop (suc n) [] on = on
-on-drop (suc n) (x ∷ l) on = on-drop n l (λ i. on (suc i))
+on-drop = small-dropped limit
 
 pub data GridCase (side : ℕ) (l : List ℤ) : Type 0 where
   all : OnGrid l → allOnGrid side l ≡ fine → GridCase side l

@@ -1,18 +1,19 @@
 -- The stages of a word (specs/Stages.antt): numbers and bits that a loop leaves at the places that are asked, the lowest first. Assumes nothing.
 use mathlib.Core.Path.{_≡_, refl, sym, ap, _∙_}
 use mathlib.Core.Bool.{Bool, true, false}
-use mathlib.Core.List.{List, [], _∷_}
-use Prim.Native.Nat.{ℕ, zero, suc, _+_, _*_, _^_, _<_}
+use mathlib.Core.List.{List}
+use Prim.Native.Nat.{ℕ, _+_, _*_, _^_, _<_}
 use native.Mathlib.Omega.{arith}
 use native.Mathlib.Decide.{ℕ-discrete}
 use borrow.Author.Tests.{ltb-true, ltb-false, ne-eqb}
 use lib.Dec.{eqb, ltb}
-use lib.IntN.{ℤ, pos}
-use lib.ListN.{length, getD, take, drop, set, length-set}
+use lib.IntN.{ℤ}
+use lib.ListN.{length, getD, drop, set, length-set}
 use lib.Pow.{pow-pos}
-use lib.Seq.{getD-drop, getD-set-same, getD-set-other}
+use lib.Seq.{getD-set-same, getD-set-other}
 use mir.Val.{boolByte}
-use Rattle.exact.specs.Small.{Narrow, BothNarrow}
+use Rattle.exact.specs.Small.{narrow, Narrow, BothNarrow}
+use Rattle.exact.proofs.GridLaws.{small-taken, small-dropped}
 use Rattle.kernel.specs.Standings.{SeemToMeet}
 use Rattle.words.specs.Bits.{bit, Lowest}
 use Rattle.words.proofs.LowestLaws.{lowest-is-set, others-stay}
@@ -22,20 +23,11 @@ use Rattle.boxes.specs.Triangles.{nine}
 use Rattle.deciding.specs.Stages.{lined, Clear, Told, Marked, CrossedAt, Parted}
 
 -- ---- the numbers of a part of a narrow list
-narrow-taken : (n : ℕ) (numbers : List ℤ) → Narrow numbers → Narrow (take n numbers)
-narrow-taken zero numbers h i = omega arith
-narrow-taken (suc n) [] h i = h i
-narrow-taken (suc n) (x ∷ numbers) h zero = h zero
-narrow-taken (suc n) (x ∷ numbers) h (suc i) = narrow-taken n numbers (λ k. h (suc k)) i
-
 pub narrow-nine : (i : ℕ) (numbers : List ℤ) → Narrow numbers → Narrow (nine i numbers)
-narrow-nine i numbers h = narrow-taken 9 (drop (9 * i) numbers) (λ k. rw (getD-drop (9 * i) numbers k (pos 0)) (h (9 * i + k)))
+narrow-nine i numbers h = small-taken narrow 9 (drop (9 * i) numbers) (small-dropped narrow (9 * i) numbers h)
 
-pub both-narrow-nine : (narrow : Bool) (t u : List ℤ) (i j : ℕ) → BothNarrow narrow t u → BothNarrow narrow (nine i t) (nine j u)
-both-narrow-nine narrow t u i j h flag = (narrow-nine i t (h flag .0), narrow-nine j u (h flag .1))
-
-pub second-narrow-nine : (narrow : Bool) (t u : List ℤ) (j : ℕ) → BothNarrow narrow t u → BothNarrow narrow t (nine j u)
-second-narrow-nine narrow t u j h flag = (h flag .0, narrow-nine j u (h flag .1))
+pub second-narrow-nine : (flag : Bool) (t u : List ℤ) (j : ℕ) → BothNarrow flag t u → BothNarrow flag t (nine j u)
+second-narrow-nine flag t u j h set = (h set .0, narrow-nine j u (h set .1))
 
 -- ---- one bit at each place
 -- A flag that code made is added.

@@ -83,13 +83,14 @@ not-less x y e = by-order (lt-or-ge x y)
 
 pub near-between : {e : Float} {z : ℤ} → Near e z errorLimit → farAbove e ≡ false → farBelow e ≡ false → natAbs z ≤ errorLimit + errorLimit
 near-between {e} {z} n above below =
+    let near = n .near in
     within-both z (errorLimit + errorLimit)
     (not-above (n .number) z (pos errorLimit)
     (not-less (pos errorLimit) (n .number) (sym (less-whole limit-whole (n .whole)) ∙ above))
-    (at-least (n .number -ℤ z) errorLimit (n .near)))
+    (at-least (n .number -ℤ z) errorLimit near))
     (not-below (n .number) z (pos errorLimit)
     (not-less (n .number) (negℤ (pos errorLimit)) (sym (less-whole (n .whole) (neg-whole limit-whole)) ∙ below))
-    (at-most (n .number -ℤ z) errorLimit (n .near)))
+    (at-most (n .number -ℤ z) errorLimit near))
 
 -- ---- for callers
 -- What the estimate e tells of the side of d to the plane of a, b, c.

@@ -5,7 +5,6 @@ use mathlib.Core.Bool.{Bool, true, false, not, _&&_, cond}
 use mathlib.Core.List.{List, [], _∷_}
 use Prim.Native.Nat.{ℕ, zero, suc, _+_, _*_, _/_, _%_, _^_, _≤_, _<_}
 use native.Mathlib.Omega.{arith}
-use native.Mathlib.Decide.{ℕ-discrete}
 use lib.ListN.{length, getD}
 use lib.Dec.{eqb}
 use borrow.Author.Tests.{ltb-true, ltb-false}
@@ -16,7 +15,7 @@ use Rattle.shape.specs.Points.{Point, coord, pointAt}
 use Rattle.shape.specs.Signs.{row, sign, digit}
 use Rattle.shape.specs.Flat.{isFlat}
 use Rattle.shape.specs.Normals.{dot, normalOf, axisOf}
-use Rattle.shape.specs.SpaceTest.{level, Standing, beside, standings, standing, byStanding, placed, lastSigns, keptFirst, keptSecond, without, axis}
+use Rattle.shape.specs.SpaceTest.{level, Standing, standing, byStanding, placed, lastSigns, keptFirst, keptSecond, without, axis}
 use Rattle.shape.proofs.FlatLaws.{is-flat}
 use Rattle.shape.proofs.VerdictLaws.{says-fixed}
 use Rattle.shape.proofs.Planes.{side-by-normal}

@@ -7,8 +7,8 @@ use Prim.Native.Nat.{ℕ, zero, suc, _+_, _-_, _*_, _/_, _%_, _≤_}
 use native.Mathlib.Omega.{arith}
 use borrow.Author.Tests.{eq-eqb, ne-eqb}
 use lib.Dec.{ltb}
-use lib.IntN.{ℤ, pos, negsuc, natAbs}
-use lib.ListN.{getD, take, drop}
+use lib.IntN.{ℤ, pos, negsuc}
+use lib.ListN.{take, drop}
 use lib.Seq.{getD-take, getD-drop}
 use mir.Val.{boolByte}
 use Rattle.algebra.proofs.Expression.{_⊞_, _⊠_}
@@ -24,6 +24,7 @@ use Rattle.shape.proofs.Symbols.{values, O, point, rowE}
 use Rattle.shape.proofs.FlatLaws.{is-flat, flat-in-space}
 use Rattle.shape.proofs.Planes.{side-by-normal}
 use Rattle.exact.specs.Grid.{limit, Ready}
+use Rattle.exact.proofs.GridLaws.{small-taken, small-dropped}
 use Rattle.exact.proofs.Branches.{if-taken, if-left, if-different, by-cases}
 use Rattle.space.specs.Spaces.{ofList, ofSegment, endsOver}
 use Rattle.wires.specs.Wires.{edgesMeet, levelTest}
@@ -97,16 +98,10 @@ from-higher k l true = refl
 from-higher k l false = refl
 
 -- ---- an edge of a triangle: six numbers of its list, from the place k on
-each-taken : (n : ℕ) (l : List ℤ) → ((i : ℕ) → natAbs (getD l i (pos 0)) ≤ limit) → (i : ℕ) → natAbs (getD (take n l) i (pos 0)) ≤ limit
-each-taken zero l small i = omega arith
-each-taken (suc n) [] small i = omega arith
-each-taken (suc n) (x ∷ l) small zero = small 0
-each-taken (suc n) (x ∷ l) small (suc i) = each-taken n l (λ j. small (suc j)) i
-
 pub edge-ready : (k : ℕ) (l : List ℤ) → k ≤ 3 → Ready 9 l → Ready 6 (take 6 (drop k l))
 edge-ready k l few ready = record {
   long = length-part k 6 l (omega (arith, ready .long));
-  each = each-taken 6 (drop k l) (λ i. rw (getD-drop k l i (pos 0)) (ready .each (k + i)));
+  each = small-taken limit 6 (drop k l) (small-dropped limit k l (ready .each));
 }
 
 -- Its ends are two corners.
