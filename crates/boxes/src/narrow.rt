@@ -1,4 +1,4 @@
-// Whether the numbers of a list are so small that 64 bits are enough for every sign, as they were for all lists on the grid before Q-6.
+// Whether the numbers of a list are so small that low words tell every side, as they did for all lists on the grid before Q-6.
 ghost use mathlib.Core.Path.{_≡_};
 ghost use Prim.Native.Nat.{_≤_};
 ghost use lib.IntN.{natAbs};
@@ -15,8 +15,8 @@ fn is_small(x: i32) -> bool
     (-NARROW <= x) & (x <= NARROW)
 }
 
-// Whether all numbers of a list are. No number ends the loop before its time: most lists either are small throughout or are told by a whole look in
-// little time, and without an exit the compiler looks at several numbers at once.
+// Whether all numbers of a list are. No number ends the loop before its time: without an exit the compiler looks at
+// several numbers at once.
 pub fn is_narrow(numbers: &[i32]) -> bool
     ensures { λ r. ⌜ Says r (Narrow (now (numbers .entry))) ⌝ }
 {

@@ -18,7 +18,7 @@ use Rattle.shape.specs.Normals.{normalOf}
 use Rattle.shape.specs.Verdicts.{Says}
 use Rattle.shape.proofs.TurnSize.{turn-size}
 use Rattle.shape.proofs.VerdictLaws.{says-yes, says-both, says-same}
-use Rattle.wide.specs.Low.{LowWord}
+use Rattle.wide.specs.Low.{HasLowWord}
 use Rattle.exact.specs.Small.{narrow}
 use Rattle.exact.specs.Vectors.{Sized, differenceSize, narrowSize, Holds}
 use Rattle.exact.proofs.Readings.{kept, vector}
@@ -82,5 +82,5 @@ says-sized {n} {x} {y} {z} p q r = says-same ((λ h. record { each = each h }), 
 
 -- ---- what the machine reads
 -- The low word of a product of two numbers that were stored and read back.
-pub product-read : (x y : ℤ) {w : ℕ} → mag x < 2 ^ hbits w64 → mag y < 2 ^ hbits w64 → LowWord (kept x *ℤ kept y) w → LowWord (x *ℤ y) w
-product-read x y {w} f g = subst (λ (z : ℤ). LowWord z w) (λ i. returned w64 {r = x} {z = x} f refl i *ℤ returned w64 {r = y} {z = y} g refl i)
+pub product-read : (x y : ℤ) {w : ℕ} → mag x < 2 ^ hbits w64 → mag y < 2 ^ hbits w64 → HasLowWord (kept x *ℤ kept y) w → HasLowWord (x *ℤ y) w
+product-read x y {w} f g = subst (λ (z : ℤ). HasLowWord z w) (λ i. returned w64 {r = x} {z = x} f refl i *ℤ returned w64 {r = y} {z = y} g refl i)

@@ -6,8 +6,7 @@ use Prim.Native.Nat.{ℕ, _≤_}
 use lib.IntN.{ℤ, pos, natAbs}
 use lib.ListN.{getD}
 
--- A list whose numbers are so small, as all were on the grid before Q-6, that 64 bits hold every sum of products that a sign is taken from. Crate
--- `boxes` names the same number.
+-- A list whose numbers are so small, as all were on the grid before Q-6, that the low word of every side tells it. Crate `boxes` names the same number.
 abbrev pub narrow : ℕ
 narrow = 524288
 

@@ -23,7 +23,7 @@ ghost use Rattle.shape.specs.Normals.{dot};
 ghost use Rattle.shape.specs.SpaceTest.{level};
 ghost use Rattle.shape.specs.Verdicts.{Says};
 ghost use Rattle.estimates.specs.Doubles.{rough, planeOf, farAbove, farBelow};
-ghost use Rattle.wide.specs.Low.{LowWord};
+ghost use Rattle.wide.specs.Low.{HasLowWord};
 ghost use Rattle.exact.specs.Grid.{limit};
 ghost use Rattle.exact.specs.Vectors.{spatial, Sized, minorSize, narrowSize, Holds, PlaneThrough};
 
@@ -59,7 +59,7 @@ pub fn is_narrow(n: SpacePoint) -> bool
 
 // The low word of the product of a row and a normal.
 fn low_dot_of(u: SpacePoint, n: SpacePoint) -> u64
-    ensures { λ r. ⌜ LowWord (dot (spatial u) (spatial n)) r ⌝ }
+    ensures { λ r. ⌜ HasLowWord (dot (spatial u) (spatial n)) r ⌝ }
 {
     let x = low_product(u.x, n.x);
     let y = low_product(u.y, n.y);

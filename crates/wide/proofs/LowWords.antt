@@ -11,7 +11,7 @@ use mir.Val.{Fits, SFits, toZ, ofZ}
 use mir.Facts.{toZ-ofZ, toZ-pos}
 use Rattle.algebra.proofs.Expression.{var, lit, neg, _⊞_, _⊠_}
 use Rattle.algebra.proofs.Certificate.{_≐_, eqn, num, _⊕_, prove≡}
-use Rattle.wide.specs.Low.{LowWord}
+use Rattle.wide.specs.Low.{HasLowWord}
 use Rattle.wide.specs.declared.Wide.{Wide}
 use Rattle.wide.proofs.Halves.{low, low-is, mod-lt32, halves, high-lt}
 use Rattle.wide.proofs.Told.{told-by-value}
@@ -40,7 +40,7 @@ wraps n = omega arith
 -- The product of two numbers of which the lower halves of the bits are y0 and z0, and the upper ones y1 and z1.
 joined : (y z k l : ℤ) (y1 y0 z1 z0 q m p s t r : ℕ)
     → y ≡ (k *ℤ pos (2 ^ 32) +ℤ pos y1) *ℤ pos (2 ^ 32) +ℤ pos y0 → z ≡ (l *ℤ pos (2 ^ 32) +ℤ pos z1) *ℤ pos (2 ^ 32) +ℤ pos z0
-    → y0 * z1 + z0 * y1 ≡ q * 2 ^ 64 + m → m * 2 ^ 32 ≡ p * 2 ^ 64 + s → s + y0 * z0 ≡ t * 2 ^ 64 + r → r < 2 ^ 64 → LowWord (y *ℤ z) r
+    → y0 * z1 + z0 * y1 ≡ q * 2 ^ 64 + m → m * 2 ^ 32 ≡ p * 2 ^ 64 + s → s + y0 * z0 ≡ t * 2 ^ 64 + r → r < 2 ^ 64 → HasLowWord (y *ℤ z) r
 joined y z k l y1 y0 z1 z0 q m p s t r ey ez em es er small =
     let h = lit (pos (2 ^ 32)) in
     let w = lit (pos (2 ^ 64)) in
@@ -77,7 +77,7 @@ in-halves z f =
 pub product-low : (u v : ℤ) → SFits w64 u → SFits w64 v → (m r : ℕ)
     → m ≡ (half (ofZ w64 u) * half (upper v) + half (ofZ w64 v) * half (upper u)) % 2 ^ 64
     → r ≡ ((m * 2 ^ 32) % 2 ^ 64 + half (ofZ w64 u) * half (ofZ w64 v)) % 2 ^ 64
-    → LowWord (u *ℤ v) r
+    → HasLowWord (u *ℤ v) r
 product-low u v fu fv m r em er =
     let u0 = half (ofZ w64 u) in
     let u1 = half (upper u) in
@@ -102,7 +102,7 @@ added y z k l v w q r ey ez er =
     (var 0 ⊞ var 1) ((var 2 ⊞ var 3 ⊞ var 6) ⊠ p ⊞ var 7) (num 1) (eqn 0 (lit (pos 1)) ⊕ eqn 1 (lit (pos 1)) ⊕ eqn 2 (lit (pos 1))) tt tt tt refl ey ez (ap pos er)
 
 -- The low word of a sum is the sum of the low words, wrapped.
-pub sum-low : {y z : ℤ} {v w r : ℕ} → LowWord y v → LowWord z w → r ≡ (v + w) % 2 ^ 64 → LowWord (y +ℤ z) r
+pub sum-low : {y z : ℤ} {v w r : ℕ} → HasLowWord y v → HasLowWord z w → r ≡ (v + w) % 2 ^ 64 → HasLowWord (y +ℤ z) r
 sum-low {y} {z} {v} {w} {r} a b e = record {
   high = a .high +ℤ b .high +ℤ pos ((v + w) / 2 ^ 64);
   is = added y z (a .high) (b .high) v w ((v + w) / 2 ^ 64) r (a .is) (b .is) (wraps (v + w) ∙ ap (λ (n : ℕ). (v + w) / 2 ^ 64 * 2 ^ 64 + n) (sym e));
@@ -111,10 +111,10 @@ sum-low {y} {z} {v} {w} {r} a b e = record {
 
 -- ---- the number that is told
 -- From zero on it is the word itself, and below zero what is missing from 2^64 on.
-word-of-pos : (n w : ℕ) → n < 2 ^ 63 → LowWord (pos n) w → w ≡ n
+word-of-pos : (n w : ℕ) → n < 2 ^ 63 → HasLowWord (pos n) w → w ≡ n
 word-of-pos n w h l = ap (λ (x : Wide). x .lo) (told-by-value (record { hi = l .high; lo = w }) (record { hi = pos 0; lo = n }) (l .small) (omega arith) (sym (l .is) ∙ ap pos (omega arith)))
 
-word-of-negsuc : (n w : ℕ) → n < 2 ^ 63 → LowWord (negsuc n) w → w ≡ 2 ^ 64 - suc n
+word-of-negsuc : (n w : ℕ) → n < 2 ^ 63 → HasLowWord (negsuc n) w → w ≡ 2 ^ 64 - suc n
 word-of-negsuc n w h l =
     ap (λ (x : Wide). x .lo)
     (told-by-value (record { hi = l .high; lo = w }) (record { hi = negsuc 0; lo = 2 ^ 64 - suc n }) (l .small) (omega arith) (sym (l .is) ∙ below))
@@ -127,16 +127,16 @@ word-of-negsuc n w h l =
         go : (n : ℕ) → n < 2 ^ 63 → suc n + (2 ^ 64 - suc n) ≡ 2 ^ 64
         go n h = omega arith
 
-low-told : (z : ℤ) (w : ℕ) → LowWord z w → natAbs z < 2 ^ 63 → w < 2 ^ 63 → pos w ≡ z
+low-told : (z : ℤ) (w : ℕ) → HasLowWord z w → natAbs z < 2 ^ 63 → w < 2 ^ 63 → pos w ≡ z
 low-told (pos n) w l h small = ap pos (word-of-pos n w h l)
 low-told (negsuc n) w l h small = absurd (omega (arith, word-of-negsuc n w (omega arith) l))
 
-high-told : (z : ℤ) (w : ℕ) → LowWord z w → natAbs z < 2 ^ 63 → 2 ^ 63 ≤ w → negsuc (18446744073709551615 - w) ≡ z
+high-told : (z : ℤ) (w : ℕ) → HasLowWord z w → natAbs z < 2 ^ 63 → 2 ^ 63 ≤ w → negsuc (18446744073709551615 - w) ≡ z
 high-told (pos n) w l h large = absurd (omega (arith, word-of-pos n w h l))
 high-told (negsuc n) w l h large = ap negsuc (omega (arith, word-of-negsuc n w (omega arith) l))
 
 -- What code reads of the two: a word below 2^63, and what one from there on leaves of -1.
-pub read-low : (z : ℤ) (w : ℕ) → LowWord z w → natAbs z < 2 ^ 63 → w < 2 ^ 63 → toZ w64 w ≡ z
+pub read-low : (z : ℤ) (w : ℕ) → HasLowWord z w → natAbs z < 2 ^ 63 → w < 2 ^ 63 → toZ w64 w ≡ z
 read-low z w l h small = toZ-pos w64 {n = w} small ∙ low-told z w l h small
 
 from-minus-one : (k : ℕ) → negsuc 0 -ℤ pos k ≡ negsuc k
@@ -150,5 +150,5 @@ module _ (w : ℕ) (large : 2 ^ 63 ≤ w) where
   pub high-fits : SFits w64 (negsuc 0 -ℤ toZ w64 (18446744073709551615 - w))
   high-fits = subst (SFits w64) (sym read-high) (record { sfits = omega arith })
 
-  pub read-below : (z : ℤ) → LowWord z w → natAbs z < 2 ^ 63 → toZ w64 (ofZ w64 (negsuc 0 -ℤ toZ w64 (18446744073709551615 - w))) ≡ z
+  pub read-below : (z : ℤ) → HasLowWord z w → natAbs z < 2 ^ 63 → toZ w64 (ofZ w64 (negsuc 0 -ℤ toZ w64 (18446744073709551615 - w))) ≡ z
   read-below z l h = toZ-ofZ high-fits ∙ read-high ∙ high-told z w l h large

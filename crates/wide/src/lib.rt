@@ -2,7 +2,7 @@
 // purpose, and the carry is found by a comparison and goes up.
 //
 // specs/Value.antt gives the one whole number that a pair of words stands for; every function here is proved over it. A pair is told by its value
-// (`told-by-value` in proofs/Told.antt).
+// (`told-by-value` in proofs/Told.antt). src/low.rt has what goes by the low word alone.
 mod low;
 
 pub use low::low_product;

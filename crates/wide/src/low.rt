@@ -3,12 +3,12 @@
 ghost use mathlib.Core.Path.{_≡_};
 ghost use Prim.Native.Nat.{_^_, _<_};
 ghost use lib.IntN.{ℤ, natAbs, _*ℤ_};
-ghost use Rattle.wide.specs.Low.{LowWord};
+ghost use Rattle.wide.specs.Low.{HasLowWord};
 
 // The low word of the product of two numbers, by the halves of their bits: the upper half of one times the lower half of the other counts 2^32, and the
 // product of the upper halves goes up whole. The compiler knows this form and makes it one multiplication.
 pub fn low_product(u: i64, v: i64) -> u64
-    ensures { λ r. ⌜ LowWord (u *ℤ v) r ⌝ }
+    ensures { λ r. ⌜ HasLowWord (u *ℤ v) r ⌝ }
 {
     let u1 = ((u >> 32) & 0xffff_ffff) as u64;
     let u0 = (u & 0xffff_ffff) as u64;
@@ -20,7 +20,7 @@ pub fn low_product(u: i64, v: i64) -> u64
 
 // The number that a low word tells, where it is smaller than 2^63 in size.
 pub fn told_by_low(w: u64) -> i64
-    ensures { λ r. ⌜ ((z : ℤ) → LowWord z w → natAbs z < 2 ^ 63 → r ≡ z) ⌝ }
+    ensures { λ r. ⌜ ((z : ℤ) → HasLowWord z w → natAbs z < 2 ^ 63 → r ≡ z) ⌝ }
 {
     if w < 9_223_372_036_854_775_808 {
         return w as i64;

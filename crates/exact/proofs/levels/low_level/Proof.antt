@@ -6,7 +6,7 @@ use Rattle.algebra.proofs.Machine.{returned}
 use Rattle.shape.specs.Points.{Point}
 use Rattle.shape.specs.Signs.{row, sign, digit}
 use Rattle.shape.specs.Normals.{dot}
-use Rattle.wide.specs.Low.{LowWord}
+use Rattle.wide.specs.Low.{HasLowWord}
 use Rattle.exact.specs.Vectors.{spatial}
 use borrow.Author.Needs.{needs}
 use Rattle.exact.proofs.levels.low_level.Statement.{statement}
@@ -31,7 +31,7 @@ returns c =
     let the-row = found .before in
     let s = the-row .before in
     let normal = spatial (s .args .normal) in
-    ((λ held. c .level-of .ensures .0 ∙ ap (λ (z : ℤ). digit (sign z)) (returned w64 (told .told-by-low .ok) (told .told-by-low .ensures (dot (row (spatial (s .args .c)) (spatial (s .args .d))) normal) (subst (λ (u : Point). LowWord (dot u normal) (found .low-dot-of .result)) (the-row .row-of .ensures .0) (found .low-dot-of .ensures)) (held .below)))), c .level-of .ensures .1)
+    ((λ held. c .level-of .ensures .0 ∙ ap (λ (z : ℤ). digit (sign z)) (returned w64 (told .told-by-low .ok) (told .told-by-low .ensures (dot (row (spatial (s .args .c)) (spatial (s .args .d))) normal) (subst (λ (u : Point). HasLowWord (dot u normal) (found .low-dot-of .result)) (the-row .row-of .ensures .0) (found .low-dot-of .ensures)) (held .below)))), c .level-of .ensures .1)
 
 pub low-level-spec : {M : Type 1} → statement M
 low-level-spec =
