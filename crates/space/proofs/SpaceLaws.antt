@@ -94,11 +94,6 @@ spaces-at at-t at-u f = λ i. f (at-t .at-p i) (at-t .at-q i) (at-t .at-r i) (at
 pub sized-triangle : {l : List ℤ} {t : SpaceTriangle} → Ready 9 l → SpaceAt (pointAt 3 0 l) (pointAt 3 3 l) (pointAt 3 6 l) t → SizedSpace limit t
 sized-triangle ready at = space-size-at at (sized-point ready 3 0 refl) (sized-point ready 3 3 refl) (sized-point ready 3 6 refl)
 
--- The triangle of a narrow list.
-pub narrow-triangle : (l : List ℤ) {t : SpaceTriangle} → Narrow l → SpaceAt (pointAt 3 0 l) (pointAt 3 3 l) (pointAt 3 6 l) t → SizedSpace narrow t
-narrow-triangle l small at =
-    space-size-at at (sized-within narrow l small 3 0 refl) (sized-within narrow l small 3 3 refl) (sized-within narrow l small 3 6 refl)
-
 -- ---- normals
 -- The normal that is kept of a list is that of its triangle.
 pub normal-in : {l : List ℤ} {t : SpaceTriangle} {n : SpacePoint} → Ready 9 l → SpaceAt (pointAt 3 0 l) (pointAt 3 3 l) (pointAt 3 6 l) t →
