@@ -176,7 +176,7 @@ fn shapes_meet<W: Whole>(first: Shape, second: Shape) -> bool {
 }
 
 /// How a triangle stands to the plane of another.
-enum Stand {
+pub enum Stand {
     /// All of it is strictly on one side.
     Beside,
     /// All of it is in the plane.
@@ -185,10 +185,10 @@ enum Stand {
     Across(Alone),
 }
 
-struct Alone {
-    corner: usize,
+pub struct Alone {
+    pub corner: usize,
     /// Whether that side is the negative one.
-    below: bool,
+    pub below: bool,
 }
 
 /// How p, q, r stands to the plane of a, b, c. A single corner on the plane counts with either side;

@@ -1,6 +1,8 @@
 //! Which signs the pair call, the listing and the segment call take, in their order, and for which of them they ask an
 //! estimate. The corners p1, q1, r1 and p2, q2, r2 of two triangles are document 000's.
 
+use crate::ordinary::{Alone, Stand};
+
 use super::sides::{sides_over, Segment, Side, Triangle};
 use super::tally::Tally;
 
@@ -15,32 +17,16 @@ pub enum Way {
     WideListing,
 }
 
-/// How a triangle stands to the plane of another.
-enum Standing {
-    /// All of it is strictly on one side.
-    Beside,
-    /// All of it is in the plane.
-    Within,
-    /// Otherwise: one corner counts as alone on its side.
-    Across(Alone),
-}
-
-struct Alone {
-    corner: usize,
-    /// Whether that side is the negative one.
-    below: bool,
-}
-
 // ---- Two triangles ----
 
 /// The first triangle is asked first, and the second also where the first is in its plane.
 pub fn pair_call(tally: &mut Tally, first: Triangle, second: Triangle) -> Result<(), String> {
     let of_first = standing(tally, Way::Pair, first, second)?;
-    if matches!(of_first, Standing::Beside) {
+    if matches!(of_first, Stand::Beside) {
         return Ok(());
     }
     let of_second = standing(tally, Way::Pair, second, first)?;
-    if let (Standing::Across(of_first), Standing::Across(of_second)) = (of_first, of_second) {
+    if let (Stand::Across(of_first), Stand::Across(of_second)) = (of_first, of_second) {
         last_signs(tally, Way::Pair, [first, second], [of_first, of_second])?;
     }
     Ok(())
@@ -48,10 +34,10 @@ pub fn pair_call(tally: &mut Tally, first: Triangle, second: Triangle) -> Result
 
 /// A pair of a listing, whose second triangle is asked first.
 pub fn listed_pair(tally: &mut Tally, way: Way, first: Triangle, second: Triangle) -> Result<(), String> {
-    let Standing::Across(of_second) = standing(tally, way, second, first)? else {
+    let Stand::Across(of_second) = standing(tally, way, second, first)? else {
         return Ok(());
     };
-    if let Standing::Across(of_first) = standing(tally, way, first, second)? {
+    if let Stand::Across(of_first) = standing(tally, way, first, second)? {
         last_signs(tally, way, [first, second], [of_first, of_second])?;
     }
     Ok(())
@@ -59,11 +45,11 @@ pub fn listed_pair(tally: &mut Tally, way: Way, first: Triangle, second: Triangl
 
 /// How a triangle stands to the plane of the other. Alone is the first corner whose side no other corner is on; if there
 /// is none, two corners are on one side, and alone is the third, which is on the plane.
-fn standing(tally: &mut Tally, way: Way, triangle: Triangle, other: Triangle) -> Result<Standing, String> {
+fn standing(tally: &mut Tally, way: Way, triangle: Triangle, other: Triangle) -> Result<Stand, String> {
     let signs = standing_signs(tally, way, sides_over(other, triangle))?;
     let [sign, ..] = signs;
     if signs == [sign; 3] {
-        return Ok(if sign == 0 { Standing::Within } else { Standing::Beside });
+        return Ok(if sign == 0 { Stand::Within } else { Stand::Beside });
     }
     let is_alone = |&k: &usize| signs[k] != 0 && signs.iter().filter(|&&sign| sign == signs[k]).count() == 1;
     let alone = match (0..3).find(is_alone) {
@@ -76,7 +62,7 @@ fn standing(tally: &mut Tally, way: Way, triangle: Triangle, other: Triangle) ->
             below: signs.contains(&1),
         },
     };
-    Ok(Standing::Across(alone))
+    Ok(Stand::Across(alone))
 }
 
 /// The signs of three corners, whose sides are over one plane.

@@ -1,5 +1,5 @@
--- The vocabulary of src/boxes.rt: the box of a triangle, six numbers, the least x, y and z of its corners and then the greatest; and its normal,
--- three numbers.
+-- The vocabulary of src/boxes.rt: the box of a triangle, six numbers, the least x, y and z of its corners and then the greatest; its normal, three
+-- numbers; and its plane, three doubles.
 use mathlib.Core.Path.{_≡_}
 use mathlib.Core.Bool.{Bool, true, cond}
 use mathlib.Core.List.{List, [], _∷_}

@@ -1,6 +1,6 @@
 // The first two stages in which a word of candidates is decided: how each of two triangles stands to the other's plane. Each is a loop over the bits that
 // are set, and leaves fewer: no branch depends on what the triangles are like, which no processor guesses. The estimate is asked first, and what it
-// can't tell is asked exactly.
+// can't tell is asked exactly; or of small numbers all by their low words.
 use crate::places::Left;
 use crate::places::index_of;
 use kernel::estimated_standing;

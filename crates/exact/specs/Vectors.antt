@@ -1,10 +1,10 @@
 -- The vocabulary of the leaves in src/determinant.rt and src/levels.rt: points and vectors as the code holds them, how large their coordinates
--- can be, the normal of a list's triangle, its plane in doubles, and what a sign tells.
+-- can be, the normal of a list's triangle, and its plane in doubles. Words of the inside: no public contract speaks of them.
 use mathlib.Core.Path.{_≡_}
 use mathlib.Core.List.{List, [], _∷_}
 use Prim.Native.Nat.{ℕ, _+_, _*_, _^_, _≤_, _<_}
 use lib.Ieee.{Float}
-use lib.IntN.{ℤ, pos, negsuc, natAbs}
+use lib.IntN.{ℤ, natAbs}
 use Rattle.shape.specs.Points.{Point, coord, pointAt}
 use Rattle.shape.specs.Normals.{dot, normalOf}
 use Rattle.estimates.specs.Doubles.{rough, planeOf}
@@ -12,8 +12,6 @@ use Rattle.estimates.specs.declared.Plane.{Plane}
 use Rattle.exact.specs.Grid.{limit}
 use Rattle.exact.specs.declared.determinant.PlanePoint.{PlanePoint}
 use Rattle.exact.specs.declared.determinant.SpacePoint.{SpacePoint}
-use Rattle.exact.specs.declared.determinant.Sign.{Sign}
-use Rattle.exact.specs.declared.determinant.Sign.the-variants.{Negative, Zero, Positive}
 
 abbrev pub planar : PlanePoint → Point
 planar p = p .x ∷ p .y ∷ []
@@ -62,9 +60,3 @@ planeIn numbers = planeOf (rough (pointAt 3 0 numbers)) (rough (pointAt 3 3 numb
 -- The same as a row of three numbers.
 abbrev pub planeRow : List ℤ → List Float
 planeRow numbers = planeIn numbers .x ∷ planeIn numbers .y ∷ planeIn numbers .z ∷ []
-
--- A sign is -1, 0 or 1.
-abbrev pub signNumber : Sign → ℤ
-signNumber Negative = negsuc 0
-signNumber Zero = pos 0
-signNumber Positive = pos 1

@@ -10,7 +10,8 @@ ghost use Rattle.shape.specs.Signs.{turn, side, row, bracket, sign};
 ghost use Rattle.shape.specs.Normals.{minors, dot, normalOf};
 ghost use Rattle.wide.specs.Value.{value};
 ghost use Rattle.exact.specs.Grid.{limit, Ready};
-ghost use Rattle.exact.specs.Vectors.{signNumber, planar, spatial, Sized, differenceSize, minorSize};
+ghost use Rattle.exact.specs.SignNumbers.{signNumber};
+ghost use Rattle.exact.specs.Vectors.{planar, spatial, Sized, differenceSize, minorSize};
 
 // A point of the plane, or a vector.
 pub struct PlanePoint {

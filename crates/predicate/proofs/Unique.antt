@@ -9,7 +9,7 @@ use Rattle.checks.specs.Answers.{Answer, served, refused}
 use Rattle.checks.proofs.AnswerLaws.{one-verdict, served-not-refused}
 use Rattle.predicate.specs.Rules.{valueRule, signRule, VerdictRule}
 use Rattle.checks.specs.Rules.{FlatShapes, pairChecks}
-use Rattle.exact.specs.Vectors.{signNumber}
+use Rattle.exact.specs.SignNumbers.{signNumber}
 use Rattle.predicate.specs.Told.{toldSign, toldValue, toldWide, LowWord, toldVerdict}
 use Rattle.wide.specs.Value.{value}
 use Rattle.wide.proofs.Told.{told-by-value}

@@ -9,7 +9,7 @@ use predicate::SignAnswer;
 use predicate::VerdictAnswer;
 ghost use mathlib.Core.Path.{_≡_};
 ghost use Rattle.shape.specs.Signs.{digit};
-ghost use Rattle.exact.specs.Vectors.{signNumber};
+ghost use Rattle.exact.specs.SignNumbers.{signNumber};
 ghost use Rattle.checks.specs.Answers.{withServed};
 ghost use Rattle.checks.specs.Told.{toldCheck};
 ghost use Rattle.predicate.specs.Told.{toldSign, toldVerdict};

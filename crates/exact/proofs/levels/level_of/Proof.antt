@@ -5,7 +5,7 @@ use mathlib.Core.Path.{refl, sym, ap, _∙_}
 use mir.Syntax.{w64}
 use Rattle.algebra.proofs.Machine.{returned}
 use Rattle.shape.specs.Signs.{sign, digit}
-use Rattle.exact.specs.Vectors.{signNumber}
+use Rattle.exact.specs.SignNumbers.{signNumber}
 use Rattle.exact.specs.declared.determinant.Sign.{Sign}
 use Rattle.exact.proofs.levels.level_of.Statement.{statement}
 use Rattle.exact.proofs.levels.level_of.Tie as tie

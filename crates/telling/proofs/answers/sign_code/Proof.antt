@@ -2,7 +2,7 @@
 -- Assumes nothing.
 use borrow.Author.Needs.{needs}
 use mathlib.Core.Path.{_≡_, sym, ap}
-use Rattle.exact.specs.Vectors.{signNumber}
+use Rattle.exact.specs.SignNumbers.{signNumber}
 use Rattle.exact.specs.declared.determinant.Sign.{Sign}
 use Rattle.shape.specs.Signs.{digit}
 use Rattle.telling.proofs.answers.sign_code.Statement.{statement}
