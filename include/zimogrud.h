@@ -61,7 +61,12 @@
  * reading and, at `answer`, `answers`, `buffer` and `text`, for writing; not null and aligned also where the length is 0. Bytes
  * need no alignment. These four overlap neither each other nor any of the other lists, and nothing else writes to any of them
  * during the call. zg_list takes some 231 kilobytes of stack, whatever its lists, zg_plate some 70 and zg_sheet some 55; the
- * other calls take little.
+ * other calls take little. The processor rounds doubles to nearest and an inexact result raises no signal, as it is in every
+ * thread of a C or Rust program that has not changed it (fesetround, feenableexcept): an estimate in doubles tells signs, and
+ * it is proved for that way of rounding only.
+ *
+ * The library keeps nothing from one call to the next. Several threads may call it at once, each with an `answer`, `answers`,
+ * `buffer` or `text` of its own.
  */
 #ifndef ZIMOGRUD_H
 #define ZIMOGRUD_H
@@ -265,8 +270,8 @@ uint32_t zg_list(const int32_t *a, size_t a_length, const int32_t *b, size_t b_l
  *
  * Two parts clash where their skins meet, that is, where a triangle of the one has a point in common with a triangle of the
  * other, or where a corner of one is inside the other: an odd number of the other's triangles lies ahead of it in the +x
- * direction. (The corner is taken to be moved by a vanishing amount in y and a still smaller one in z, so that no ray runs along
- * a triangle or through a corner.) So a part that is swallowed whole clashes; one in a hollow that is given by an inner skin
+ * direction. (The corner is taken to be moved by a vanishing positive amount in y and a still smaller one in z, so that no ray
+ * runs along a triangle or through a corner.) So a part that is swallowed whole clashes; one in a hollow that is given by an inner skin
  * doesn't. Inside asks for closed shells: each directed edge of a part's triangles occurs once, and its reverse once, where the
  * triangle a, b, c has the edges a to b, b to c and c to a. A part asked against itself doesn't clash, and skins that meet do,
  * whatever the shells; otherwise 16 is given where one is open. The count is of pairs of triangles that have a point in
