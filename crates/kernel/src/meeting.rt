@@ -1,5 +1,6 @@
-// Whether two shapes that passed their checks have a point in common, a list each. What is promised is the definition, so the crates
-// above know nothing of the tests.
+// Whether two shapes that passed their checks have a point in common, a list each. What is promised is the definition, so that most crates
+// above know nothing of the tests. Of two triangles in space the test can be asked in stages too, for crate `deciding`: their standings, and
+// then the verdict (specs/Standings.antt).
 use exact::is_narrow;
 use exact::plane_at;
 use plane::plane_triangle;

@@ -1,5 +1,5 @@
 // The tests in the plane on machine signs: the decisions of crate shape's specs/PlaneTest.antt, test by test, on shapes of the grid. What
-// is off the grid or flat was refused before.
+// is off the grid was refused before; a flat triangle was refused too, or goes to crate `wires`.
 //
 // Document 000's corners p1, q1, r1 and p2, q2, r2 are first.p, first.q, first.r and second.p, second.q, second.r.
 use exact::PlanePoint;

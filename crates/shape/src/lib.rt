@@ -1,4 +1,4 @@
-// What the words of document 01 mean, over the whole numbers: no grid, no machine, no function.
+// What the words of documents 01 and 02 mean, over the whole numbers: no grid, no machine, no function.
 //
 // specs/ holds the definitions that a reader must believe:
 //   Points       points, shapes, how a list of numbers is read as points, moving by a vector
@@ -6,10 +6,17 @@
 //   Sharing      a point of a shape by whole weights, and having a point in common
 //   Flat         flat triangles and segments, and the test that tells them
 //   Verdicts     what a verdict says
+//   Lists        words about lists of anything
+//   Inside       a point inside a shell of triangles
+//   Shells       the corners of a shell, and closed shells
+//   Bench        the table of proved bench rows
+// and words that no public promise cites, by which code decides:
+//   Normals      the normal of a plane
 //   PlaneTest    the tests in the plane as decisions by signs
 //   SpaceTest    the tests in space as decisions by signs, of triangles that are not flat
 //   WireTest     the same of two segments, and of shapes that may be flat
-//   Bench        the table of proved bench rows
+//   InsideTest   inside, decided by signs
+//   TriangleLists   the triangles at the front of a list of numbers
 //
 // proofs/ holds the laws, each proved once over the number of coordinates and, where it makes sense, of corners:
 //   Weights      the weighted sum of a function over the corners is linear and monotone
@@ -22,6 +29,7 @@
 //   Dependence   meeting by a dependence of n + 2 points in n coordinates: what proves every "yes"
 //   Witnesses    its three instances: a point in a triangle, two segments that cross, a segment through a triangle
 //   SignLaws     swapping, cycling, equal points, moving, for plane and space at once
+//   TurnSize     how large a turn can be
 //   VerdictLaws  a verdict by signs; two verdicts on one claim are the same
 //   FlatLaws     flat triangles told by turns, and by the test
 //   Lines        flat in document 01's words: one corner between the others; in any order
@@ -36,5 +44,11 @@
 //   SpaceLeaves  each answer of the tests in space with its certificate
 //   SpaceTest    each test in space says yes exactly when the two shapes have a point in common, where no triangle is flat
 //   WireTest     the same of two segments, and of all shapes, flat or not
+//   ListLaws     laws of the words about lists
+//   Eventually   the sign of a polynomial for every n large enough
+//   AheadAt, AheadTest, InsideTest   ahead of a point and inside, by signs
+//   TriangleLists   the triangles at the front of a list of numbers
+//   ShellRows    rows of the definitions of shells and of inside
+//   ShellMoves   a shell and a point moved by one vector
 //   Symbols      points as symbols for the ring solver
 //   Bench        every row of the table holds
