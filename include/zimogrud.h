@@ -273,9 +273,9 @@ uint32_t zg_list(const int32_t *a, size_t a_length, const int32_t *b, size_t b_l
  * direction. (The corner is taken to be moved by a vanishing positive amount in y and a still smaller one in z, so that no ray
  * runs along a triangle or through a corner.) So a part that is swallowed whole clashes; one in a hollow that is given by an
  * inner skin doesn't. Inside asks for closed shells: each directed edge of a part's triangles occurs once, and its reverse
- * once, where the triangle a, b, c has the edges a to b, b to c and c to a. A part asked against itself doesn't clash, and skins
- * that meet do, whatever the shells; otherwise 16 is given where one is open. The count is of pairs of triangles that have a
- * point in common: a part that is swallowed whole adds nothing to it.
+ * once, where the triangle a, b, c has the edges a to b, b to c and c to a. A part asked against itself doesn't clash, and
+ * skins that meet do, whatever the shells; otherwise 16 is given where one is open. The count is of pairs of triangles that
+ * have a point in common: a part that is swallowed whole adds nothing to it.
  *
  * Result: how many calls were done. These are all that `calls`, `numbers` and `answers` have room for, or those before the
  * first of another kind than 1 to 5. All numbers of `answers` after theirs stay as they are.
