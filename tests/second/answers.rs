@@ -7,13 +7,15 @@ pub mod listing;
 pub mod plate;
 pub mod sheet;
 pub mod shells;
+pub mod verdicts;
 
+use crate::door::ANSWER_NUMBERS;
 use crate::geometry::axes::{self, Overlap};
 use crate::geometry::clipping::{self, Reach};
 use crate::geometry::edges::{self, Contact};
 use crate::geometry::signs;
 use crate::geometry::thin::{self, Kind};
-use crate::geometry::{Point, Segment, Space, Triangle};
+use crate::geometry::{points_in, Point, Segment, Space, Triangle};
 use faults::{first_refusal, flat_triangle_faults, point_faults, segment_faults, triangle_faults, ListFaults};
 use listing::ListingFindings;
 use std::fmt;
@@ -57,6 +59,10 @@ impl Answer {
             place,
             value: 0,
         }
+    }
+
+    pub fn numbers(&self) -> [u64; ANSWER_NUMBERS] {
+        [self.number, self.side, self.place, self.value]
     }
 }
 
@@ -244,7 +250,7 @@ fn seen_along(triangle: &Triangle) -> [bool; 3] {
 }
 
 fn points_of<const D: usize, const N: usize>(list: &[i32]) -> [Point<D>; N] {
-    std::array::from_fn(|i| std::array::from_fn(|k| i128::from(list[D * i + k])))
+    points_in(list)
 }
 
 /// A sign goes through the door as 0, 1, 2 for -1, 0, 1.

@@ -19,12 +19,12 @@ pub use slice::{start_of, LentSlice};
 #[cfg(all(any(target_arch = "x86_64", linked), not(relayed)))]
 mod linked;
 #[cfg(all(any(target_arch = "x86_64", linked), not(relayed)))]
-pub use linked::Door;
+pub use linked::{Door, STRAIGHT};
 
 #[cfg(any(not(any(target_arch = "x86_64", linked)), relayed))]
 mod relay;
 #[cfg(any(not(any(target_arch = "x86_64", linked)), relayed))]
-pub use relay::Door;
+pub use relay::{Door, STRAIGHT};
 
 pub const ANSWER_NUMBERS: usize = 4;
 /// Each call on the plate tells so many.
@@ -66,9 +66,7 @@ impl Room {
     }
 
     fn write(&mut self, outcome: &Outcome, start: u64) {
-        let answer = &outcome.answer;
-        let numbers = [answer.number, answer.side, answer.place, answer.value];
-        self.answer.write(0, numbers.into_iter());
+        self.answer.write(0, outcome.answer.numbers().into_iter());
         if !outcome.pairs.is_empty() {
             self.buffer
                 .write(start as usize, outcome.pairs.iter().copied().flatten());
@@ -108,6 +106,21 @@ pub struct Question<'a> {
     pub start: u64,
     pub room: &'a Room,
 }
+
+/// A call with all that is lent to it and no marks around that, for calls in great numbers. A sheet can't be put so, nor
+/// can anything through a relay.
+#[cfg_attr(any(not(any(target_arch = "x86_64", linked)), relayed), allow(dead_code))]
+pub struct Straight<'a> {
+    pub function: Function,
+    pub first: &'a [i32],
+    pub second: &'a [i32],
+    pub start: u64,
+    pub answer: &'a mut [u64],
+    pub buffer: &'a mut [u32],
+}
+
+/// Puts a call to the library, and gives its result.
+pub type PutStraight = fn(Straight) -> u64;
 
 /// All that can be seen after a call.
 #[derive(PartialEq, Eq)]

@@ -7,6 +7,7 @@ pub mod aimed;
 mod breaks;
 mod byte_pairs;
 pub mod ends;
+pub mod families;
 mod faulty;
 mod lattice;
 mod listing;
@@ -54,12 +55,16 @@ fn box_point<const D: usize>(random: &mut Random, half: i32) -> [i32; D] {
 /// Each number 0, or an end of the grid; in half the lists, or one or two short of an end.
 fn extreme_list(random: &mut Random, numbers: usize) -> Vec<i32> {
     let slack = random.pick(&[0, 2]);
-    let one = |random: &mut Random| match random.below(7) {
+    (0..numbers).map(|_| extreme_number(random, slack)).collect()
+}
+
+/// 0, or at most so many short of an end of the grid.
+fn extreme_number(random: &mut Random, slack: i32) -> i32 {
+    match random.below(7) {
         0 => 0,
         1..=3 => GRID - random.between(0, slack),
         _ => random.between(0, slack) - GRID,
-    };
-    (0..numbers).map(|_| one(random)).collect()
+    }
 }
 
 fn extreme_lists(random: &mut Random, numbers: usize) -> Lists {
@@ -71,8 +76,12 @@ fn any_half(random: &mut Random) -> i32 {
     random.pick(&[3, 6, 20, 1_000, 1_500_000, GRID])
 }
 
-/// Moves one number by one, staying on the grid: what lay exactly on a line or a plane now just misses it.
+/// Moves one number by one, staying on the grid: what lay exactly on a line or a plane now just misses it. An empty list
+/// stays as it is.
 fn nudge(random: &mut Random, list: &mut [i32]) {
+    if list.is_empty() {
+        return;
+    }
     let position = random.index(list.len());
     list[position] = (list[position] + random.pick(&[-1, 1])).clamp(-GRID, GRID);
 }
@@ -94,12 +103,16 @@ fn traded(random: &mut Random, (first, second): Lists) -> Lists {
 /// The corners of shapes in D coordinates in any order. A list of the wrong length stays as it is.
 fn shuffled<const D: usize>(random: &mut Random, mut list: Vec<i32>, numbers: usize) -> Vec<i32> {
     if list.len() == numbers {
-        for last in (1..numbers / D).rev() {
-            let other = random.index(last + 1);
-            (0..D).for_each(|k| list.swap(D * last + k, D * other + k));
-        }
+        shuffle::<D>(random, &mut list);
     }
     list
+}
+
+fn shuffle<const D: usize>(random: &mut Random, list: &mut [i32]) {
+    for last in (1..list.len() / D).rev() {
+        let other = random.index(last + 1);
+        (0..D).for_each(|k| list.swap(D * last + k, D * other + k));
+    }
 }
 
 /// Two triangles that share one corner or two.

@@ -1,7 +1,8 @@
 //! The second program: puts the bench rows of document 01, all patterns of ends of the grid, many random inputs, pairs
 //! of triangles in space as bytes too, many inputs aimed at the quick estimate of request Q-7, many random stories of a
 //! plate and many random job sheets to the library under check, finds every answer by means of its own, and compares.
-//! With `--text` it asks nothing, but writes pairs and their answers as text.
+//! With `--verdicts` it compares the verdicts on shapes alone, very many of them. With `--text` it asks nothing, but
+//! writes pairs and their answers as text.
 //! `tests/second/run` says how it is called.
 //!
 //! Exit status: 0 no disagreement; 1 a disagreement, a failure of the calls, or a case never met;
@@ -24,6 +25,7 @@ mod sheets;
 mod story;
 mod tally;
 mod text;
+mod verdicts;
 
 use answers::Opinion;
 use byte_pair::BytePair;
@@ -69,6 +71,8 @@ struct Settings {
     sheets: u64,
     seed: u64,
     tiny: bool,
+    /// How many verdicts to compare, and nothing else.
+    verdicts: Option<u64>,
     /// Where to write pairs as text, instead of comparing.
     text: Option<String>,
 }
@@ -83,6 +87,9 @@ fn main() -> ExitCode {
     };
     if let Some(name) = &settings.text {
         return write_text(name, &settings);
+    }
+    if let Some(pairs) = settings.verdicts {
+        return compare_verdicts(pairs, settings.seed);
     }
     let door = match Door::open() {
         Ok(door) => door,
@@ -100,8 +107,13 @@ fn main() -> ExitCode {
         ..
     } = settings;
     let run = format!("--pairs {pairs} --stories {stories} --sheets {sheets} --seed {seed}{tiny}");
+    tell(&run, || compare_all(door, &settings))
+}
+
+/// Says which run it is, and how it ended.
+fn tell(run: &str, compare: impl FnOnce() -> Result<String, String>) -> ExitCode {
     say(&format!("second: {run}"));
-    match compare_all(door, &settings) {
+    match compare() {
         Ok(last_line) => {
             say(&format!("second: {last_line}"));
             ExitCode::SUCCESS
@@ -111,6 +123,18 @@ fn main() -> ExitCode {
             ExitCode::from(1)
         }
     }
+}
+
+fn compare_verdicts(pairs: u64, seed: u64) -> ExitCode {
+    let Some(put) = door::STRAIGHT else {
+        eprintln!("second: --verdicts needs x86-64, where the library is linked in");
+        return ExitCode::from(2);
+    };
+    tell(&format!("--verdicts {pairs} --seed {seed}"), || {
+        let tallies = verdicts::compare_many(put, seed, pairs)?;
+        tallies.lines().iter().for_each(|line| say(line));
+        tallies.last_line(pairs)
+    })
 }
 
 fn write_text(name: &str, settings: &Settings) -> ExitCode {
@@ -134,20 +158,24 @@ fn say(line: &str) {
 
 fn read_arguments(mut arguments: impl Iterator<Item = String>) -> Result<Settings, String> {
     let (mut pairs, mut stories, mut sheets) = (None, None, None);
-    let (mut seed, mut tiny, mut text) = (None, false, None);
+    let (mut verdicts, mut seed, mut tiny, mut text) = (None, None, false, None);
     while let Some(name) = arguments.next() {
         match name.as_str() {
             "--pairs" => pairs = Some(read_number(&name, arguments.next())?),
             "--stories" => stories = Some(read_number(&name, arguments.next())?),
             "--sheets" => sheets = Some(read_number(&name, arguments.next())?),
+            "--verdicts" => verdicts = Some(read_number(&name, arguments.next())?),
             "--seed" => seed = Some(read_number(&name, arguments.next())?),
             "--tiny" => tiny = true,
             "--text" => text = Some(arguments.next().ok_or_else(|| format!("{name} needs a name"))?),
             _ => return Err(format!("unknown argument {name:?}")),
         }
     }
-    if [pairs, stories, sheets].contains(&Some(0)) {
-        return Err("--pairs, --stories and --sheets must be at least 1".to_string());
+    if [pairs, stories, sheets, verdicts].contains(&Some(0)) {
+        return Err("--pairs, --stories, --sheets and --verdicts must be at least 1".to_string());
+    }
+    if verdicts.is_some() && (tiny || text.is_some() || [pairs, stories, sheets] != [None; 3]) {
+        return Err("--verdicts goes with --seed alone".to_string());
     }
     let pairs = pairs.unwrap_or(DEFAULT_PAIRS);
     Ok(Settings {
@@ -156,6 +184,7 @@ fn read_arguments(mut arguments: impl Iterator<Item = String>) -> Result<Setting
         sheets: sheets.unwrap_or(pairs.div_ceil(PAIRS_TO_A_SHEET)),
         seed: seed.unwrap_or_else(seed_from_clock),
         tiny,
+        verdicts,
         text,
     })
 }

@@ -3,8 +3,11 @@
 #[path = "../../../include/zimogrud.rs"]
 mod zimogrud;
 
-use super::{packed, unpacked, Function, Lent, Question, Reply, Room, MARGIN, REST_STAYED, TEXT_BYTES};
+use super::{packed, unpacked, Function, Lent, PutStraight, Question, Reply, Room, Straight};
+use super::{MARGIN, REST_STAYED, TEXT_BYTES};
 use zimogrud::{zg_flat, zg_list, zg_pair, zg_pair_bytes, zg_plate, zg_segment, zg_sheet, zg_side, zg_turn};
+
+pub const STRAIGHT: Option<PutStraight> = Some(put_straight);
 
 pub struct Door;
 
@@ -25,16 +28,58 @@ impl Door {
 fn reply_to(question: &Question) -> Reply {
     // The lists are copies reached by changing pointers, so that a forbidden write can be seen.
     let (mut first, mut second) = (question.first.to_vec(), question.second.to_vec());
-    let (a, a_len) = (first.as_mut_ptr().cast_const(), first.len());
-    let (b, b_len) = (second.as_mut_ptr().cast_const(), second.len());
     let mut room = question.room.clone();
-    let (answer, answer_len) = lent_pointer(&mut room.answer);
-    let (buffer, buffer_len) = lent_pointer(&mut room.buffer);
-    let start = question.start as usize;
+    let pointers = Pointers {
+        first: (first.as_mut_ptr().cast_const(), first.len()),
+        second: (second.as_mut_ptr().cast_const(), second.len()),
+        start: question.start,
+        answer: lent_pointer(&mut room.answer),
+        buffer: lent_pointer(&mut room.buffer),
+    };
     // SAFETY: each pointer leads to as many numbers as are named, that of a sheet or a slice to as many bytes, and
     // nothing else uses them meanwhile.
-    let result: u64 = unsafe {
+    let result = unsafe {
         match question.function {
+            Function::Sheet => sheet_result(pointers.first.0.cast(), question.start as usize, &mut room),
+            function => pointers.result(function),
+        }
+    };
+    Reply {
+        result,
+        room,
+        lists_stayed: first == question.first && second == question.second,
+    }
+}
+
+fn put_straight(call: Straight) -> u64 {
+    let pointers = Pointers {
+        first: (call.first.as_ptr(), call.first.len()),
+        second: (call.second.as_ptr(), call.second.len()),
+        start: call.start,
+        answer: (call.answer.as_mut_ptr(), call.answer.len()),
+        buffer: (call.buffer.as_mut_ptr(), call.buffer.len()),
+    };
+    // SAFETY: each pointer leads to as many numbers as are named, and nothing else uses them meanwhile.
+    unsafe { pointers.result(call.function) }
+}
+
+/// Where all that is lent to a call begins, and how many numbers each has.
+struct Pointers {
+    first: (*const i32, usize),
+    second: (*const i32, usize),
+    start: u64,
+    answer: (*mut u64, usize),
+    buffer: (*mut u32, usize),
+}
+
+impl Pointers {
+    /// # Safety
+    /// Each pointer leads to as many numbers as are named, and nothing else uses them meanwhile.
+    unsafe fn result(&self, function: Function) -> u64 {
+        let ((a, a_len), (b, b_len)) = (self.first, self.second);
+        let ((answer, answer_len), (buffer, buffer_len)) = (self.answer, self.buffer);
+        let start = self.start as usize;
+        match function {
             Function::Turn => zg_turn(a, a_len, answer, answer_len).into(),
             Function::Side => zg_side(a, a_len, answer, answer_len).into(),
             Function::Flat => zg_flat(a, a_len, b, b_len, answer, answer_len).into(),
@@ -42,17 +87,12 @@ fn reply_to(question: &Question) -> Reply {
             Function::Pair => zg_pair(a, a_len, b, b_len, answer, answer_len).into(),
             Function::List => zg_list(a, a_len, b, b_len, buffer, buffer_len, start, answer, answer_len).into(),
             Function::Plate => zg_plate(a.cast(), a_len, b, b_len, answer, answer_len),
-            Function::Sheet => sheet_result(a.cast(), start, &mut room),
+            Function::Sheet => unreachable!("a sheet has room of its own"),
             Function::PairBytes => {
-                let [(a, a_len), (b, b_len)] = slices_in([(a, a_len), (b, b_len)], question.start);
+                let [(a, a_len), (b, b_len)] = slices_in([(a, a_len), (b, b_len)], self.start);
                 zg_pair_bytes(a, a_len, b, b_len).into()
             }
         }
-    };
-    Reply {
-        result,
-        room,
-        lists_stayed: first == question.first && second == question.second,
     }
 }
 

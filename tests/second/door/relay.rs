@@ -13,7 +13,7 @@
 //! - the first list and then the second, signed 32-bit numbers;
 //! - four bytes of 0 where the frame's size would not be a multiple of eight without them.
 
-use super::{Function, Lent, Question, Reply, Room, MARGIN};
+use super::{Function, Lent, PutStraight, Question, Reply, Room, MARGIN};
 use std::io::{Read, Write};
 use std::process::{Child, ChildStdin, ChildStdout, Command, Stdio};
 
@@ -24,6 +24,9 @@ const HEAD_BYTES: usize = 2 * 8 + 6 * 4 + 8;
 const RESULT_AT: usize = 8;
 /// Stands where the result will be: the relay has to write over it.
 const NO_RESULT: u64 = u64::MAX;
+
+/// There is no straight way through a relay.
+pub const STRAIGHT: Option<PutStraight> = None;
 
 pub struct Door {
     relay: Child,

@@ -5,9 +5,10 @@
 //! polytope, of which 0 is no point when the shapes are apart; then 0 is beyond one of its facets, or the polytope
 //! lies in a plane that 0 isn't in. The axes named below include one across each facet, and one across that plane.
 //! Shapes that touch, at a corner or along an edge, have no axis on which the shadows are apart: no case of its own.
+//! No other axis can do harm, so the coordinates, on which shadows are found soonest, come before them.
 
-use super::thin::{is_flat, kind_of, longest_edge, Kind};
-use super::{minus, product, steps, Flat, FlatTriangle, Point, Space, Triangle};
+use super::thin::Core;
+use super::{dot, is_zero, product, steps, Flat, FlatTriangle, Point, Space, Triangle, Whole};
 
 #[derive(Clone, Copy, PartialEq, Eq, PartialOrd, Ord, Debug)]
 pub enum Overlap {
@@ -19,114 +20,123 @@ pub enum Overlap {
 }
 
 /// The differences of two triangles of the plane have facets that each go along an edge of one of them. So an axis
-/// across each edge is enough. Steps are at most 2^31 in size, so no shadow goes beyond 2^62.
-pub fn flat_overlap(first: &FlatTriangle, second: &FlatTriangle) -> Overlap {
-    let across = |[x, y]: Flat| [-y, x];
+/// across each edge is enough. Steps are at most 2^31 in size, so no shadow goes beyond 2^62, which 64 bits hold too.
+pub fn flat_overlap<Number: Whole>(first: &FlatTriangle<Number>, second: &FlatTriangle<Number>) -> Overlap {
+    let across = |[x, y]: Flat<Number>| [-y, x];
     let all_steps = steps(first).into_iter().chain(steps(second));
-    overlap_on(all_steps.map(across), first, second)
+    let mut shadows = Shadows::of(first, second);
+    let met = shadows.meet_along_coordinates() && shadows.meet_on(all_steps.map(across));
+    shadows.overlap_where(met)
 }
 
-/// The same for a segment (N = 2) or a triangle (N = 3) and a triangle of space.
-pub fn overlap<const N: usize>(first: &[Space; N], second: &Triangle) -> Overlap {
-    if is_flat(first) || is_flat(second) {
-        overlap_of_thin(first, second)
-    } else {
-        overlap_of_sound(first, second)
-    }
-}
+/// No coordinate of a narrow shape is above this in size.
+pub const NARROW: i32 = 1 << 14;
 
-/// Of shapes that aren't flat.
-///
-/// Where the differences fill space, each facet is parallel to one of the triangles, whose normal is across it; or it
-/// is spanned by an edge of each shape, and the product of both steps is across it. Where the differences lie in one
-/// plane, the first shape is parallel to the second's plane. Then the second's normal is across that plane; within it,
-/// each facet goes along an edge of one of the shapes, and the product of the normal and the step is across it. All
-/// these axes are tried in either case, as no axis can do harm. An axis of zero, which parallel edges give and the
-/// normal of a segment is, tells nothing: all shadows on it are 0.
+/// The same for a segment (N = 2) or a triangle (N = 3) and a triangle of space, which may be flat.
 ///
 /// Steps are at most 2^31 in size, their products 2^63 and those of a product and a step 2^95, so a shadow is at most
-/// 3 * 2^125, below 2^127.
-fn overlap_of_sound<const N: usize>(first: &[Space; N], second: &Triangle) -> Overlap {
-    let (first_steps, second_steps) = (steps(first), steps(second));
-    let (first_normal, second_normal) = (normal(&first_steps), normal(&second_steps));
-    let products = first_steps
-        .into_iter()
-        .flat_map(|step| second_steps.map(|other| product(step, other)));
-    let in_plane = first_steps
-        .into_iter()
-        .chain(second_steps)
-        .map(|step| product(second_normal, step));
-    let axes = [first_normal, second_normal]
-        .into_iter()
-        .chain(products)
-        .chain(in_plane);
-    overlap_on(axes, first, second)
+/// 3 * 2^125, below 2^127. Of narrow shapes these are 2^15, 2^31, 2^47 and 3 * 2^61, below 2^63, so that 64 bits have
+/// room.
+pub fn overlap<Number: Whole, const N: usize>(first: &[Space<Number>; N], second: &Triangle<Number>) -> Overlap {
+    let (first, second) = (Core::of(first), Core::of(second));
+    let mut shadows = Shadows::of(first.corners(), second.corners());
+    let met = shadows.meet_along_coordinates()
+        && shadows.meet_on(products(&first, &second))
+        && meet_within_a_plane(&mut shadows, &first, &second);
+    shadows.overlap_where(met)
 }
 
-/// Of any shapes, with axes for differences of whatever dimensions.
+/// Across each two steps.
 ///
-/// Each edge of the differences goes along a step of one of the shapes, of which a flat one has a single step. Where
-/// the differences fill space, each facet is spanned by two steps, whose product is across it. Where they lie in one
-/// plane, the product of two steps is across that plane; and within it each facet goes along a step, and the product of
-/// that product and the step is across it. Where they lie on one line, along a step, the step is an axis, and the
-/// products of the step with the axes of space tell each point off the line from those on it. Where they are one point,
-/// the axes of space tell it from 0. All these axes are tried in any case.
+/// Each edge of the differences goes along a step of one of the shapes, of which a wire has a single one and a pin has
+/// none. Where the differences fill space, each facet is parallel to an area, whose normal is across it; or it is
+/// spanned by a step of each shape, and the product of both is across it. Where they lie in one plane, and not on one
+/// line, one of these axes is across that plane. An axis of zero, which parallel steps give and the normal of a wire
+/// is, tells nothing: all shadows on it are 0.
+fn products<'a, Number: Whole>(
+    first: &'a Core<Number>,
+    second: &'a Core<Number>,
+) -> impl Iterator<Item = Space<Number>> + 'a {
+    let of_both = first.steps().iter();
+    let of_both = of_both.flat_map(|step| second.steps().iter().map(|other| product(*step, *other)));
+    [second.normal, first.normal].into_iter().chain(of_both)
+}
+
+/// On the axes for differences that don't fill space, where they don't.
 ///
-/// The numbers are bounded as above.
-fn overlap_of_thin<const N: usize>(first: &[Space; N], second: &Triangle) -> Overlap {
-    let all_steps = [spanning_steps(first), spanning_steps(second)].concat();
-    let products_with = |axes: &[Space]| -> Vec<Space> {
-        axes.iter()
-            .flat_map(|axis| all_steps.iter().map(|step| product(*axis, *step)))
-            .collect()
+/// Where they lie in one plane, and not on one line, some product of two steps is across it; each facet goes along a
+/// step, and the product of that product and the step is across it. Where they lie on one line, along a step, the step
+/// is an axis, and the products of the step with the axes of space tell each point off the line from those on it. Where
+/// they are one point, the coordinates have told it from 0.
+fn meet_within_a_plane<Number: Whole>(
+    shadows: &mut Shadows<Number, 3>,
+    first: &Core<Number>,
+    second: &Core<Number>,
+) -> bool {
+    let mut all_steps = first.steps().iter().chain(second.steps()).copied();
+    let Some(normal) = products(first, second).find(|product| !is_zero(*product)) else {
+        let [one, zero] = [1, 0].map(Number::from);
+        let axes_of_space = [[one, zero, zero], [zero, one, zero], [zero, zero, one]];
+        return all_steps.all(|step| {
+            let off_line = axes_of_space.map(|axis| product(step, axis));
+            shadows.meet_on(off_line.into_iter().chain([step]))
+        });
     };
-    let products = products_with(&all_steps);
-    let (in_plane, across_line) = (products_with(&products), products_with(&AXES_OF_SPACE));
-    let axes = [products, in_plane, across_line, all_steps, AXES_OF_SPACE.to_vec()].concat();
-    overlap_on(axes.into_iter(), first, second)
+    let is_within = |step: Space<Number>| dot(normal, step) == Number::from(0);
+    !all_steps.clone().all(is_within) || shadows.meet_on(all_steps.map(|step| product(normal, step)))
 }
 
-const AXES_OF_SPACE: [Space; 3] = [[1, 0, 0], [0, 1, 0], [0, 0, 1]];
-
-/// The steps around a shape; of one that is flat only that along all of it.
-fn spanning_steps<const N: usize>(corners: &[Space; N]) -> Vec<Space> {
-    if kind_of(corners) == Kind::Area {
-        return steps(corners).to_vec();
-    }
-    let [from, to] = longest_edge(corners);
-    vec![minus(to, from)]
+/// What the shadows of two shapes say, on the axes looked at so far: one axis where they are apart is enough. Shadows
+/// that only touch, and aren't one and the same point, leave only border points in common; where the shapes share only
+/// such, a facet shows it as above.
+struct Shadows<'a, Number, const D: usize> {
+    first: &'a [Point<D, Number>],
+    second: &'a [Point<D, Number>],
+    only_touch: bool,
 }
 
-/// What the shadows on these axes say: one axis where they are apart is enough. Shadows that only touch, and aren't one
-/// and the same point, leave only border points in common; where the shapes share only such, a facet shows it as above.
-fn overlap_on<const D: usize>(
-    axes: impl Iterator<Item = Point<D>>,
-    first: &[Point<D>],
-    second: &[Point<D>],
-) -> Overlap {
-    let mut overlap = Overlap::InnerPoints;
-    for axis in axes {
-        let (low, high) = shadow(first, axis);
-        let (other_low, other_high) = shadow(second, axis);
-        if high < other_low || other_high < low {
-            return Overlap::Apart;
-        }
-        if (high == other_low || other_high == low) && (low, other_low) != (high, other_high) {
-            overlap = Overlap::BorderOnly;
+impl<'a, Number: Whole, const D: usize> Shadows<'a, Number, D> {
+    fn of(first: &'a [Point<D, Number>], second: &'a [Point<D, Number>]) -> Shadows<'a, Number, D> {
+        Shadows {
+            first,
+            second,
+            only_touch: false,
         }
     }
-    overlap
+
+    /// Whether they meet on each coordinate.
+    fn meet_along_coordinates(&mut self) -> bool {
+        (0..D).all(|k| self.meet_by(|corner| corner[k]))
+    }
+
+    /// Whether they meet on each of these axes.
+    fn meet_on(&mut self, mut axes: impl Iterator<Item = Point<D, Number>>) -> bool {
+        axes.all(|axis| self.meet_by(|corner| dot(corner, axis)))
+    }
+
+    /// Whether they meet on the axis on which each point has this place.
+    fn meet_by(&mut self, place: impl Fn(Point<D, Number>) -> Number) -> bool {
+        let (low, high) = shadow(self.first, &place);
+        let (other_low, other_high) = shadow(self.second, &place);
+        let touch = high == other_low || other_high == low;
+        self.only_touch |= touch && (low, other_low) != (high, other_high);
+        low <= other_high && other_low <= high
+    }
+
+    fn overlap_where(&self, met: bool) -> Overlap {
+        match (met, self.only_touch) {
+            (false, _) => Overlap::Apart,
+            (true, true) => Overlap::BorderOnly,
+            (true, false) => Overlap::InnerPoints,
+        }
+    }
 }
 
-fn shadow<const D: usize>(corners: &[Point<D>], axis: Point<D>) -> (i128, i128) {
-    let along = |corner: &Point<D>| (0..D).map(|k| corner[k] * axis[k]).sum::<i128>();
-    let places = corners.iter().map(along);
-    places.fold((i128::MAX, i128::MIN), |(low, high), place| {
-        (low.min(place), high.max(place))
-    })
-}
-
-/// Across a triangle; zero for a segment.
-fn normal(steps: &[Space]) -> Space {
-    product(steps[0], steps[1])
+fn shadow<Number: Whole, const D: usize>(
+    corners: &[Point<D, Number>],
+    place: impl Fn(Point<D, Number>) -> Number,
+) -> (Number, Number) {
+    let start = place(corners[0]);
+    let others = corners[1..].iter().map(|corner| place(*corner));
+    others.fold((start, start), |(low, high), place| (low.min(place), high.max(place)))
 }

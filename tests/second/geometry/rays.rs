@@ -4,7 +4,7 @@
 //! swung past an edge or a corner meets two triangles more, or two fewer, or as many as before: whether the number is
 //! odd is the same in every direction, and at any place that the point can be moved to without passing the skin.
 
-use super::{edges_of, minus, product, Space, Triangle};
+use super::{dot, edges_of, minus, product, Space, Triangle};
 use crate::random::Random;
 
 /// So many directions are tried before the program stops; a point on the skin may have none.
@@ -48,8 +48,4 @@ pub fn crosses(point: Space, direction: Space, triangle: &Triangle) -> Option<us
     let [a, b, c] = corners;
     let is_ahead = dot(a, product(b, c)).signum() == weights[0].signum();
     Some(usize::from(is_ahead))
-}
-
-fn dot(u: Space, v: Space) -> i128 {
-    (0..3).map(|k| u[k] * v[k]).sum()
 }

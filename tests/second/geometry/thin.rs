@@ -3,7 +3,7 @@
 //!
 //! With coordinates of at most 2^31 no number here is above 2^99 in size.
 
-use super::{minus, product, steps, Segment, Space};
+use super::{dot, is_zero, minus, product, steps, Segment, Space, Triangle, Whole};
 
 /// Each has one dimension more than the one before.
 #[derive(Clone, Copy, PartialEq, Eq, PartialOrd, Ord, Debug)]
@@ -14,22 +14,66 @@ pub enum Kind {
 }
 
 pub fn kind_of<const N: usize>(corners: &[Space; N]) -> Kind {
-    match dimensions_of(&steps(corners)) {
-        0 => Kind::Pin,
-        1 => Kind::Wire,
-        _ => Kind::Area,
-    }
+    Core::of(corners).kind
 }
 
 /// Whether a segment (N = 2) or a triangle (N = 3) is less than it could be.
 pub fn is_flat<const N: usize>(corners: &[Space; N]) -> bool {
-    dimensions_of(&steps(corners)) < N - 1
+    (kind_of(corners) as usize) < N - 1
+}
+
+/// All of a shape and nothing more: an area has three corners, a wire two ends, and a pin is one point.
+pub struct Core<Number = i128> {
+    kind: Kind,
+    corners: Triangle<Number>,
+    steps: [Space<Number>; 3],
+    /// Across an area; zero for a wire or a pin.
+    pub normal: Space<Number>,
+}
+
+impl<Number: Whole> Core<Number> {
+    pub fn of<const N: usize>(corners: &[Space<Number>; N]) -> Core<Number> {
+        let steps = steps(corners);
+        let normal = product(steps[0], steps[1]);
+        if is_zero(normal) {
+            return Core::of_edge(longest_edge(corners), normal);
+        }
+        Core {
+            kind: Kind::Area,
+            corners: std::array::from_fn(|i| corners[i % N]),
+            steps: std::array::from_fn(|i| steps[i % N]),
+            normal,
+        }
+    }
+
+    fn of_edge([from, to]: Segment<Number>, no_normal: Space<Number>) -> Core<Number> {
+        let step = minus(to, from);
+        Core {
+            kind: if is_zero(step) { Kind::Pin } else { Kind::Wire },
+            corners: [from, to, to],
+            steps: [step; 3],
+            normal: no_normal,
+        }
+    }
+
+    pub fn corners(&self) -> &[Space<Number>] {
+        &self.corners[..=self.kind as usize]
+    }
+
+    /// An area has three, a wire one, and a pin none.
+    pub fn steps(&self) -> &[Space<Number>] {
+        match self.kind {
+            Kind::Pin => &[],
+            Kind::Wire => &self.steps[..1],
+            Kind::Area => &self.steps,
+        }
+    }
 }
 
 /// The longest edge. Of a wire or a pin it is all.
-pub fn longest_edge<const N: usize>(corners: &[Space; N]) -> Segment {
+pub fn longest_edge<Number: Whole, const N: usize>(corners: &[Space<Number>; N]) -> Segment<Number> {
     let edge = |i: usize| [corners[i], corners[(i + 1) % N]];
-    let square = |[p, q]: &Segment| minus(*q, *p).iter().map(|n| n * n).sum::<i128>();
+    let square = |[p, q]: &Segment<Number>| dot(minus(*q, *p), minus(*q, *p));
     (1..N).map(edge).fold(edge(0), |longest, edge| {
         if square(&edge) > square(&longest) {
             edge
@@ -48,13 +92,12 @@ pub fn span_of(first: &[Space], second: &[Space]) -> usize {
 
 /// How many dimensions all that has to which the steps lead, in whatever order and however often each is taken.
 fn dimensions_of(steps: &[Space]) -> usize {
-    let Some(along) = steps.iter().find(|step| **step != [0; 3]) else {
+    let Some(along) = steps.iter().find(|step| !is_zero(**step)) else {
         return 0;
     };
     let mut products = steps.iter().map(|step| product(*along, *step));
-    let Some(normal) = products.find(|product| *product != [0; 3]) else {
+    let Some(normal) = products.find(|product| !is_zero(*product)) else {
         return 1;
     };
-    let height = |step: &Space| (0..3).map(|k| normal[k] * step[k]).sum::<i128>();
-    2 + usize::from(steps.iter().any(|step| height(step) != 0))
+    2 + usize::from(steps.iter().any(|step| dot(normal, *step) != 0))
 }

@@ -7,8 +7,6 @@ use super::{moved, Lists};
 use crate::answers::{GRID, TRIANGLE_NUMBERS};
 use crate::random::Random;
 
-type Vector = [i32; 3];
-
 /// Two triangles of which at least one is flat, on a tiny grid above all.
 pub fn any_thin_lists(random: &mut Random) -> Lists {
     let lists = if random.once_in(2) {
@@ -23,10 +21,10 @@ pub fn any_thin_lists(random: &mut Random) -> Lists {
 pub fn thinned_lists(random: &mut Random, (mut first, mut second): Lists, limit: i32) -> Lists {
     let which = random.below(3);
     if which != 0 {
-        thin(random, &mut first, limit);
+        thin::<3>(random, &mut first, limit);
     }
     if which != 1 {
-        thin(random, &mut second, limit);
+        thin::<3>(random, &mut second, limit);
     }
     if random.once_in(4) {
         step_aside(random, &mut first, limit);
@@ -38,19 +36,19 @@ pub fn thinned_lists(random: &mut Random, (mut first, mut second): Lists, limit:
 pub fn thin_some(random: &mut Random, list: &mut [i32], one_in: u64) {
     for triangle in list.chunks_exact_mut(TRIANGLE_NUMBERS) {
         if random.once_in(one_in) {
-            thin(random, triangle, GRID);
+            thin::<3>(random, triangle, GRID);
         }
     }
 }
 
-/// Makes a triangle flat: one corner alone, an edge with one of its ends doubled, an edge with the third corner between
+/// Makes a triangle of D coordinates flat: one corner alone, an edge with one of its ends doubled, an edge with the third corner between
 /// its ends or beyond one of them, or a line along an axis.
-fn thin(random: &mut Random, triangle: &mut [i32], limit: i32) {
+pub fn thin<const D: usize>(random: &mut Random, triangle: &mut [i32], limit: i32) {
     let [a, b, c] = random
         .pick(&[[0, 1, 2], [1, 2, 0], [2, 0, 1]])
-        .map(|i| corner_of(triangle, i));
-    let axis = random.index(3);
-    let along_axis = |corner: Vector| std::array::from_fn(|k| if k == axis { corner[k] } else { a[k] });
+        .map(|i| corner_of::<D>(triangle, i));
+    let axis = random.index(D);
+    let along_axis = |corner: [i32; D]| std::array::from_fn(|k| if k == axis { corner[k] } else { a[k] });
     let corners = match random.below(8) {
         0 => [a; 3],
         1..=2 => [a, b, random.pick(&[a, b])],
@@ -61,20 +59,20 @@ fn thin(random: &mut Random, triangle: &mut [i32], limit: i32) {
     triangle.copy_from_slice(corners.as_flattened());
 }
 
-fn corner_of(triangle: &[i32], i: usize) -> Vector {
-    std::array::from_fn(|k| triangle[3 * i + k])
+fn corner_of<const D: usize>(triangle: &[i32], i: usize) -> [i32; D] {
+    std::array::from_fn(|k| triangle[D * i + k])
 }
 
 /// With a corner in the middle of the other two, where that is whole; else of some that are nearer to each other.
-fn halved(a: Vector, b: Vector) -> [Vector; 3] {
+fn halved<const D: usize>(a: [i32; D], b: [i32; D]) -> [[i32; D]; 3] {
     // Two steps from one end of the grid to the other have no room in 32 bits; where they lead has.
-    let step: [i64; 3] = std::array::from_fn(|k| (i64::from(b[k]) - i64::from(a[k])) / 2);
+    let step: [i64; D] = std::array::from_fn(|k| (i64::from(b[k]) - i64::from(a[k])) / 2);
     [0, 2, 1].map(|steps| std::array::from_fn(|k| (i64::from(a[k]) + steps * step[k]) as i32))
 }
 
 /// With b in the middle of the other two, or at one of them where the third would be beyond the limit.
-fn doubled(a: Vector, b: Vector, limit: i32) -> [Vector; 3] {
-    let far: [i64; 3] = std::array::from_fn(|k| 2 * i64::from(b[k]) - i64::from(a[k]));
+fn doubled<const D: usize>(a: [i32; D], b: [i32; D], limit: i32) -> [[i32; D]; 3] {
+    let far: [i64; D] = std::array::from_fn(|k| 2 * i64::from(b[k]) - i64::from(a[k]));
     if far.iter().all(|n| n.abs() <= i64::from(limit)) {
         [far.map(|n| n as i32), b, a]
     } else {
