@@ -3,7 +3,10 @@
 --   GridLaws      the lowest position off the grid
 --   CheckLaws     what each check finds, by its cases
 --   Passing       what is known of shapes that the checks passed
+-- and rows of the definition:
+--   GridRows      the ends of the grid, and one farther
 pub mod AnswerLaws
 pub mod GridLaws
 pub mod CheckLaws
 pub mod Passing
+pub mod GridRows

@@ -19,7 +19,7 @@ use Rattle.words.specs.Bits.{bit}
 use Rattle.words.proofs.BitLaws.{bit-of-none}
 use Rattle.words.proofs.Filling.{both}
 use Rattle.boxes.specs.Triangles.{triangles}
-use Rattle.deciding.specs.Stages.{indexOf, lined, Clear, Among, Lined, Normalled, Planed, StandsAt, SeemsAt, Told, Marked, seemsAlone, isOpen, isAlone, isWithin, CrossedAt, Parted, SortedAt, AllAlone, AllNumbered, AllStood, JudgedAt, Judged}
+use Rattle.deciding.specs.Stages.{indexOf, lined, Clear, Among, Lined, Normalled, Planed, Posed, StandsAt, SeemsAt, Told, Marked, seemsAlone, isOpen, isAlone, isWithin, CrossedAt, Parted, SortedAt, AllAlone, AllNumbered, AllStood, JudgedAt, Judged}
 
 -- ---- fewer places
 pub lined-among : {numbers : List ℤ} {from step some asked : ℕ} → Among some asked → Lined numbers from step asked → Lined numbers from step some
@@ -118,10 +118,10 @@ module _ {t u : List ℤ} {start step base stride asked close seen seemed : ℕ}
     (opens : Marked (λ z b. b ≡ isOpen (getD between z 0)) 0 asked seemed)
     (clear : Clear asked close) where
   -- What the estimate can't tell was asked, and has no bit yet.
-  pub open-among : Among seemed asked
+  open-among : Among seemed asked
   open-among z set = asked-for opens z set (bit-of-none z)
 
-  pub open-clear : Clear seemed seen
+  open-clear : Clear seemed seen
   open-clear z set = by-bit (bit z seen) refl
     where
       by-bit : (b : Bool) → bit z seen ≡ b → bit z seen ≡ false
@@ -139,6 +139,18 @@ module _ {t u : List ℤ} {start step base stride asked close seen seemed : ℕ}
               by-test true b e f g = omega (arith, eqb-true s 1 e)
               by-test false true e f g = omega (arith, ltb-true 15 s f)
               by-test false false e f g = both g refl
+
+  -- So it can be asked exactly.
+  pub open-posed : {narrow : Bool} {normals : List ℤ} {planes : List Float} → Posed narrow t u start step base stride normals planes asked close → narrow ≡ false →
+      Lined t start step seemed × Lined u base stride seemed × Normalled u normals base stride seemed × Planed u planes base stride seemed × Clear seemed seen × Clear seemed close
+  open-posed q wide = (
+    lined-among open-among (q .first),
+    lined-among open-among (q .other),
+    normalled-among open-among (q .normalled),
+    planed-among open-among (q .planed wide),
+    open-clear,
+    (λ z set. clear z (open-among z set)),
+  )
 
   pub parted-both : {kept other : ℕ} {after : List ℕ} → Told (StandsAt t u start step base stride) seemed between after → Marked (λ z b. b ≡ isAlone (getD after z 0)) seen seemed kept →
       Marked (λ z b. b ≡ isWithin (getD after z 0)) close seemed other → Parted (SortedAt t u start step base stride after) asked close kept other

@@ -12,6 +12,7 @@ use lib.ListN.{length, getD}
 use Rattle.shape.specs.Points.{pointsAt}
 use Rattle.shape.specs.Sharing.{Share}
 use Rattle.exact.specs.Grid.{Ready}
+use Rattle.exact.specs.Small.{BothNarrow}
 use Rattle.exact.specs.Vectors.{normalIn}
 use Rattle.space.specs.Spaces.{Numbered, lastSignsBy}
 use Rattle.kernel.specs.Meeting.{Judges}
@@ -51,6 +52,16 @@ pub record Normalled (numbers normals : List ℤ) (from step asked : ℕ) : Type
 pub record Planed (numbers : List ℤ) (planes : List Float) (from step asked : ℕ) : Type 0 where
   pub room : (z : ℕ) → bit z asked ≡ true → 3 * indexOf from step z + 3 ≤ length planes
   pub plane : (z : ℕ) → bit z asked ≡ true → IsPlane (lined numbers from step z) (three (indexOf from step z) planes)
+
+-- What a stage is asked: triangles of one list and, of the other, triangles with their normals and, unless all numbers are small, their planes, at places that
+-- are not close already.
+pub record Posed (narrow : Bool) (t u : List ℤ) (start step base stride : ℕ) (normals : List ℤ) (planes : List Float) (asked close : ℕ) : Type 0 where
+  pub first : Lined t start step asked
+  pub other : Lined u base stride asked
+  pub normalled : Normalled u normals base stride asked
+  pub planed : narrow ≡ false → Planed u planes base stride asked
+  pub small : BothNarrow narrow t u
+  pub clear : Clear asked close
 
 -- The number s is that of the standing of the triangle of place z in one list to the plane of that in the other; by the estimate, where that can tell.
 pub record StandsAt (t u : List ℤ) (start step base stride z s : ℕ) : Type 0 where

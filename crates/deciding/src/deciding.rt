@@ -1,10 +1,8 @@
 // The verdicts on all pairs of two lists, each pair decided once and kept as a bit of a word. Boxes tell of most pairs that they are apart; the
 // others are candidates, and a word of them is decided in stages.
-use crate::standings::stand_by_estimate;
-use crate::standings::stand_exactly;
-use crate::standings::stand_low;
-use crate::verdicts::cross_by_estimate;
-use crate::verdicts::decide_rest;
+use crate::standings::candidates_stand;
+use crate::standings::triangle_stands;
+use crate::verdicts::judge;
 use boxes::is_narrow;
 use boxes::put_boxes;
 use boxes::put_normals;
@@ -15,7 +13,7 @@ ghost use mathlib.Core.Path.{_≡_};
 ghost use mathlib.Core.Bool.{false};
 ghost use Prim.Native.Nat.{_*_, _/_, _≤_, _<_};
 ghost use lib.ListN.{length};
-ghost use Rattle.exact.specs.Small.{Narrow, BothNarrow};
+ghost use Rattle.exact.specs.Small.{BothNarrow};
 ghost use Rattle.kernel.specs.Standings.{IsPlane};
 ghost use Rattle.words.specs.Spans.{firstOf, span};
 ghost use Rattle.boxes.specs.Triangles.{triangles, nine};
@@ -23,9 +21,9 @@ ghost use Rattle.boxes.specs.Boxes.{Sound, Known, Prepared, Planned};
 ghost use Rattle.deciding.specs.Words.{MayMeet, MayMeetBelow, Verdicts, VerdictsBelow, onesBelow};
 
 // The verdicts on the triangle and those of the second list from one on, 64 at the most. Only the candidates are looked at: how they stand to the plane of
-// the triangle, how the triangle stands to the planes of those that are left, and the last signs of what is left then, by the estimate each and exactly
-// where that can't tell.
+// the triangle, how the triangle stands to the planes of those that are left, and the last signs of what is left then.
 fn decide_word(
+    narrow: bool,
     corners: &[i32],
     normal: &[i64],
     plane: &[f64],
@@ -35,62 +33,34 @@ fn decide_word(
     from: usize,
     candidates: u64,
 ) -> u64
-    requires { ⌜ Known (now corners) (now normal) × IsPlane (now corners) (now plane) × Prepared (now second) (now normals) × Planned (now second) (now planes) × (from ≤ 1024) × MayMeet (now corners) (now second) from (span (triangles (now second)) from) candidates ⌝ }
+    requires { ⌜ Known (now corners) (now normal) × Prepared (now second) (now normals) × (narrow ≡ false → IsPlane (now corners) (now plane) × Planned (now second) (now planes)) × BothNarrow narrow (now corners) (now second) × (from ≤ 1024) × MayMeet (now corners) (now second) from (span (triangles (now second)) from) candidates ⌝ }
     ensures { λ r. ⌜ Verdicts (now (corners .entry)) (now (second .entry)) from (span (triangles (now (second .entry))) from) r ⌝ }
 {
     let mut standings = [0u32; 64];
-    let seen = stand_by_estimate(
+    let first = candidates_stand(
+        narrow,
         &mut standings[..],
         second,
         from,
-        1,
         corners,
-        0,
-        0,
+        normal,
         plane,
         candidates,
     );
-    let first = stand_exactly(
-        &mut standings[..],
-        second,
-        from,
-        1,
-        corners,
-        0,
-        0,
-        normal,
-        plane,
-        seen.other,
-        seen.kept,
-        0,
-    );
     let mut own = [0u32; 64];
-    let again = stand_by_estimate(
+    let both = triangle_stands(
+        narrow,
         &mut own[..],
         corners,
-        0,
-        0,
         second,
         from,
-        1,
-        planes,
-        first.kept,
-    );
-    let both = stand_exactly(
-        &mut own[..],
-        corners,
-        0,
-        0,
-        second,
-        from,
-        1,
         normals,
         planes,
-        again.other,
-        again.kept,
+        first.kept,
         first.other,
     );
-    let told = cross_by_estimate(
+    judge(
+        narrow,
         corners,
         &own[..],
         second,
@@ -98,76 +68,6 @@ fn decide_word(
         from,
         both.kept,
         both.other,
-    );
-    decide_rest(
-        false,
-        corners,
-        &own[..],
-        second,
-        &standings[..],
-        from,
-        told.other,
-        told.kept,
-    )
-}
-
-// The same where all numbers are small, so that the estimate is not worth asking.
-fn decide_narrow_word(
-    corners: &[i32],
-    normal: &[i64],
-    second: &[i32],
-    normals: &[i64],
-    from: usize,
-    candidates: u64,
-) -> u64
-    requires { ⌜ Known (now corners) (now normal) × Prepared (now second) (now normals) × (from ≤ 1024) × MayMeet (now corners) (now second) from (span (triangles (now second)) from) candidates × Narrow (now corners) × Narrow (now second) ⌝ }
-    ensures { λ r. ⌜ Verdicts (now (corners .entry)) (now (second .entry)) from (span (triangles (now (second .entry))) from) r ⌝ }
-{
-    let mut standings = [0u32; 64];
-    let first = stand_low(
-        &mut standings[..],
-        second,
-        from,
-        1,
-        corners,
-        0,
-        0,
-        normal,
-        candidates,
-        0,
-    );
-    let mut own = [0u32; 64];
-    let both = stand_low(
-        &mut own[..],
-        corners,
-        0,
-        0,
-        second,
-        from,
-        1,
-        normals,
-        first.kept,
-        first.other,
-    );
-    let word = decide_rest(
-        true,
-        corners,
-        &own[..],
-        second,
-        &standings[..],
-        from,
-        both.kept,
-        0,
-    );
-    decide_rest(
-        true,
-        corners,
-        &own[..],
-        second,
-        &standings[..],
-        from,
-        both.other,
-        word,
     )
 }
 
@@ -183,7 +83,7 @@ fn decide_word_of(
     k: usize,
     candidates: u64,
 ) -> u64
-    requires { ⌜ Prepared (now first) (now normals) × Prepared (now second) (now others) × (narrow ≡ false → Planned (now first) (now planes) × Planned (now second) (now rough)) × BothNarrow narrow (now first) (now second) × (k < triangles (now first) * 16) × MayMeet (nine (k / 16) (now first)) (now second) (firstOf k) (span (triangles (now second)) (firstOf k)) candidates ⌝ }
+    requires { ⌜ Prepared (now first) (now normals) × Prepared (now second) (now others) × (3 * triangles (now first) ≤ length (now planes)) × (narrow ≡ false → Planned (now first) (now planes) × Planned (now second) (now rough)) × BothNarrow narrow (now first) (now second) × (k < triangles (now first) * 16) × MayMeet (nine (k / 16) (now first)) (now second) (firstOf k) (span (triangles (now second)) (firstOf k)) candidates ⌝ }
     ensures { λ r. ⌜ Verdicts (nine (k / 16) (now (first .entry))) (now (second .entry)) (firstOf k) (span (triangles (now (second .entry))) (firstOf k)) r ⌝ }
 {
     if candidates == 0 {
@@ -191,17 +91,8 @@ fn decide_word_of(
     }
     let at = 9 * (k / 16);
     let normal_at = 3 * (k / 16);
-    if narrow {
-        return decide_narrow_word(
-            &first[at..at + 9],
-            &normals[normal_at..normal_at + 3],
-            second,
-            others,
-            k % 16 * 64,
-            candidates,
-        );
-    }
     decide_word(
+        narrow,
         &first[at..at + 9],
         &normals[normal_at..normal_at + 3],
         &planes[normal_at..normal_at + 3],
@@ -224,7 +115,7 @@ fn decide_words(
     rough: &[f64],
     words: &mut [u64],
 ) -> u64
-    requires { ⌜ Prepared (now first) (now normals) × Prepared (now second) (now others) × (narrow ≡ false → Planned (now first) (now planes) × Planned (now second) (now rough)) × BothNarrow narrow (now first) (now second) × (triangles (now first) * 16 ≤ length (now words)) × MayMeetBelow (now first) (now second) (now words) (triangles (now first) * 16) ⌝ }
+    requires { ⌜ Prepared (now first) (now normals) × Prepared (now second) (now others) × (3 * triangles (now first) ≤ length (now planes)) × (narrow ≡ false → Planned (now first) (now planes) × Planned (now second) (now rough)) × BothNarrow narrow (now first) (now second) × (triangles (now first) * 16 ≤ length (now words)) × MayMeetBelow (now first) (now second) (now words) (triangles (now first) * 16) ⌝ }
     ensures { λ r. ⌜ VerdictsBelow (now (first .entry)) (now (second .entry)) (now (words .exit)) (triangles (now (first .entry)) * 16) × (r ≡ onesBelow (triangles (now (second .entry))) (now (words .exit)) (triangles (now (first .entry)) * 16)) ⌝ }
 {
     let end = first.len() / 9 * 16;

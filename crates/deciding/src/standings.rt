@@ -18,7 +18,7 @@ ghost use Rattle.exact.specs.Vectors.{normalIn};
 ghost use Rattle.kernel.specs.Standings.{StandsTo, IsPlane, SeemsTo};
 ghost use Rattle.boxes.specs.Triangles.{triangles, nine};
 ghost use Rattle.boxes.specs.Boxes.{three};
-ghost use Rattle.deciding.specs.Stages.{Clear, Lined, Normalled, Planed, StandsAt, SeemsAt, Told, Marked, seemsAlone, isOpen, isAlone, isWithin};
+ghost use Rattle.deciding.specs.Stages.{Clear, Lined, Normalled, Planed, StandsAt, SeemsAt, Posed, Told, Marked, Parted, SortedAt, seemsAlone, isOpen, isAlone, isWithin};
 
 // The standing of triangle i of one list to the plane of triangle j of the other, by the estimate.
 fn estimated_at(t: &[i32], i: usize, u: &[i32], j: usize, planes: &[f64]) -> u32
@@ -50,7 +50,7 @@ fn is_open(s: u32) -> bool
 }
 
 // The standings at the places that are asked, by the estimate.
-pub fn stand_by_estimate(
+fn stand_by_estimate(
     standings: &mut [u32],
     t: &[i32],
     start: usize,
@@ -101,7 +101,7 @@ fn exact_at(t: &[i32], i: usize, u: &[i32], j: usize, normals: &[i64], planes: &
 }
 
 // The standings at the places that are asked, exactly: pairs with a corner alone go to those that are kept, and pairs in one plane to the others.
-pub fn stand_exactly(
+fn stand_exactly(
     standings: &mut [u32],
     t: &[i32],
     start: usize,
@@ -154,7 +154,7 @@ fn low_at(t: &[i32], i: usize, u: &[i32], j: usize, normals: &[i64]) -> u32
 }
 
 // What `stand_exactly` gives, where all numbers are small: the estimate would not be worth asking.
-pub fn stand_low(
+fn stand_low(
     standings: &mut [u32],
     t: &[i32],
     start: usize,
@@ -187,4 +187,86 @@ pub fn stand_low(
         kept: kept,
         other: other,
     }
+}
+
+// The first stage: how the candidates of the second list stand to the plane of the triangle. Pairs with a corner alone are kept, and pairs in one plane go
+// to the others; what is neither is apart.
+pub fn candidates_stand(
+    narrow: bool,
+    standings: &mut [u32],
+    second: &[i32],
+    from: usize,
+    corners: &[i32],
+    normal: &[i64],
+    plane: &[f64],
+    asked: u64,
+) -> Left
+    requires { ⌜ (length (now standings) ≡ 64) × Posed narrow (now second) (now corners) from 1 0 0 (now normal) (now plane) asked 0 ⌝ }
+    ensures { λ r. ⌜ (length (now (standings .exit)) ≡ 64) × Parted (SortedAt (now (second .entry)) (now (corners .entry)) from 1 0 0 (now (standings .exit))) asked 0 (r .kept) (r .other) ⌝ }
+{
+    if narrow {
+        return stand_low(standings, second, from, 1, corners, 0, 0, normal, asked, 0);
+    }
+    let seen = stand_by_estimate(standings, second, from, 1, corners, 0, 0, plane, asked);
+    stand_exactly(
+        standings,
+        second,
+        from,
+        1,
+        corners,
+        0,
+        0,
+        normal,
+        plane,
+        seen.other,
+        seen.kept,
+        0,
+    )
+}
+
+// The second stage: how the triangle stands to the planes of those that are left, beside the pairs that are close already. It is a function of its own, and
+// not the first stage with other lists, because the compiler then has a loop for each in which it knows what stays the same.
+pub fn triangle_stands(
+    narrow: bool,
+    standings: &mut [u32],
+    corners: &[i32],
+    second: &[i32],
+    from: usize,
+    normals: &[i64],
+    planes: &[f64],
+    asked: u64,
+    close: u64,
+) -> Left
+    requires { ⌜ (length (now standings) ≡ 64) × Posed narrow (now corners) (now second) 0 0 from 1 (now normals) (now planes) asked close ⌝ }
+    ensures { λ r. ⌜ (length (now (standings .exit)) ≡ 64) × Parted (SortedAt (now (corners .entry)) (now (second .entry)) 0 0 from 1 (now (standings .exit))) asked close (r .kept) (r .other) ⌝ }
+{
+    if narrow {
+        return stand_low(
+            standings,
+            corners,
+            0,
+            0,
+            second,
+            from,
+            1,
+            normals,
+            asked,
+            close,
+        );
+    }
+    let seen = stand_by_estimate(standings, corners, 0, 0, second, from, 1, planes, asked);
+    stand_exactly(
+        standings,
+        corners,
+        0,
+        0,
+        second,
+        from,
+        1,
+        normals,
+        planes,
+        seen.other,
+        seen.kept,
+        close,
+    )
 }

@@ -16,7 +16,7 @@ ghost use Rattle.space.specs.Spaces.{Numbered};
 ghost use Rattle.kernel.specs.Meeting.{Judges};
 ghost use Rattle.kernel.specs.Standings.{SeemToMeet, Stood};
 ghost use Rattle.boxes.specs.Triangles.{triangles, nine};
-ghost use Rattle.deciding.specs.Stages.{Clear, Lined, Marked, AllNumbered, CrossedAt, Parted, AllStood, JudgedAt};
+ghost use Rattle.deciding.specs.Stages.{Clear, Lined, Marked, AllNumbered, CrossedAt, Parted, AllAlone, AllStood, JudgedAt, Judged};
 
 // The last two signs of the triangle in nine numbers and triangle j of the list, whose standings are s and r, by the estimate.
 fn crossing_at(corners: &[i32], s: u32, second: &[i32], j: usize, r: u32) -> u32
@@ -28,7 +28,7 @@ fn crossing_at(corners: &[i32], s: u32, second: &[i32], j: usize, r: u32) -> u32
 }
 
 // Which of the pairs that are asked meet, by the estimate of their last two signs, where s and r are the standings. What it can't tell goes to the others.
-pub fn cross_by_estimate(
+fn cross_by_estimate(
     corners: &[i32],
     own: &[u32],
     second: &[i32],
@@ -68,7 +68,7 @@ fn meet_at(narrow: bool, corners: &[i32], s: u32, second: &[i32], j: usize, r: u
 }
 
 // The verdicts on the pairs that are asked, beside those that are known.
-pub fn decide_rest(
+fn decide_rest(
     narrow: bool,
     corners: &[i32],
     own: &[u32],
@@ -99,4 +99,36 @@ pub fn decide_rest(
         left = next;
     }
     word
+}
+
+// The verdicts on pairs that each have a corner alone, and on close ones: by the estimate of the last signs, and exactly where that can't tell; or where all
+// numbers are small, exactly at once.
+pub fn judge(
+    narrow: bool,
+    corners: &[i32],
+    own: &[u32],
+    second: &[i32],
+    standings: &[u32],
+    from: usize,
+    alone: u64,
+    close: u64,
+) -> u64
+    requires { ⌜ Ready 9 (now corners) × (length (now own) ≡ 64) × Lined (now second) from 1 alone × Lined (now second) from 1 close × (length (now standings) ≡ 64) × AllAlone (now corners) (now own) (now second) (now standings) from alone × AllStood (now corners) (now own) (now second) (now standings) from close × BothNarrow narrow (now corners) (now second) × Clear alone close ⌝ }
+    ensures { λ r. ⌜ Judged (now (corners .entry)) (now (second .entry)) from alone close r ⌝ }
+{
+    if narrow {
+        let word = decide_rest(narrow, corners, own, second, standings, from, alone, 0);
+        return decide_rest(narrow, corners, own, second, standings, from, close, word);
+    }
+    let told = cross_by_estimate(corners, own, second, standings, from, alone, close);
+    decide_rest(
+        narrow,
+        corners,
+        own,
+        second,
+        standings,
+        from,
+        told.other,
+        told.kept,
+    )
 }

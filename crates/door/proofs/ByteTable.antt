@@ -1,7 +1,7 @@
 -- The door of bytes by its cases: 103, 101 and the verdict are each given exactly in their case, the verdict by `Share`, and trading the two
 -- slices leaves the number. Assumes nothing.
-use mathlib.Core.Path.{_≡_, refl, sym, ap, subst}
-use mathlib.Core.Bool.{Bool}
+use mathlib.Core.Path.{_≡_, refl, sym, subst}
+use mathlib.Core.Bool.{Bool, true, false}
 use mathlib.Core.List.{List}
 use mathlib.Core.Logic.{_↔_, _⊎_, inl, inr}
 use Prim.Native.Nat.{ℕ}
@@ -10,9 +10,7 @@ use lib.IntN.{ℤ}
 use lib.ListN.{length}
 use Rattle.shape.specs.Points.{pointsAt}
 use Rattle.shape.specs.Sharing.{Share}
-use Rattle.shape.specs.Verdicts.{Says}
 use Rattle.shape.proofs.Trading.{share-trade}
-use Rattle.shape.proofs.VerdictLaws.{says-same, says-fixed}
 use Rattle.checks.specs.Answers.{Answer, withServed}
 use Rattle.checks.proofs.GridLaws.{SomeOff}
 use Rattle.checks.proofs.CheckLaws.{OnGrid}
@@ -41,8 +39,9 @@ module _ (a b : List ℕ) where
     short-or-long : (Long → ⊥) → BytesCase 103
     -- 101: both are, and some number is off the grid.
     off-grid : Long → SomeOff first ⊎ SomeOff second → BytesCase 101
-    -- The verdict: 1 where the two triangles have a point in common, 0 where they have none.
-    verdict : Long → OnGrid first → OnGrid second → (v : Bool) → Says v (Share 3 (pointsAt 3 3 0 first) (pointsAt 3 3 0 second)) → BytesCase (verdictCode v)
+    -- Both are, all numbers are on it, and the two triangles have a point in common: 1; or they have none: 0.
+    meeting : Long → OnGrid first → OnGrid second → Share 3 (pointsAt 3 3 0 first) (pointsAt 3 3 0 second) → BytesCase 1
+    apart : Long → OnGrid first → OnGrid second → (Share 3 (pointsAt 3 3 0 first) (pointsAt 3 3 0 second) → ⊥) → BytesCase 0
 
   -- No number is off the grid where all are on it.
   never-off : OnGrid first → OnGrid second → SomeOff first ⊎ SomeOff second → ⊥
@@ -57,7 +56,8 @@ module _ (a b : List ℕ) where
 
       by-found : Found first second (length-numbers 9 a) (length-numbers 9 b) (t .told) → BytesCase (oneNumber (withServed verdictCode (t .told)))
       by-found (off side place p e) = with-told e (off-grid long p)
-      by-found (on h h′ v says e) = with-told e (verdict long h h′ v says)
+      by-found (on h h′ true says e) = with-told e (meeting long h h′ (says .yes refl))
+      by-found (on h h′ false says e) = with-told e (apart long h h′ (says .no refl))
 
 -- ---- the table
 module _ {a b : List ℕ} where
@@ -68,13 +68,20 @@ module _ {a b : List ℕ} where
   case-fixed : {r s : ℕ} → BytesCase a b r → BytesCase a b s → r ≡ s
   case-fixed (short-or-long h) (short-or-long g) = refl
   case-fixed (short-or-long h) (off-grid long p) = absurd (h long)
-  case-fixed (short-or-long h) (verdict long g g′ v says) = absurd (h long)
+  case-fixed (short-or-long h) (meeting long g g′ share) = absurd (h long)
+  case-fixed (short-or-long h) (apart long g g′ none) = absurd (h long)
   case-fixed (off-grid long p) (short-or-long g) = absurd (g long)
   case-fixed (off-grid long p) (off-grid long′ q) = refl
-  case-fixed (off-grid long p) (verdict long′ h h′ v says) = absurd (never-off a b h h′ p)
-  case-fixed (verdict long h h′ v says) (short-or-long g) = absurd (g long)
-  case-fixed (verdict long h h′ v says) (off-grid long′ q) = absurd (never-off a b h h′ q)
-  case-fixed (verdict long h h′ v says) (verdict long′ g g′ w says′) = ap verdictCode (says-fixed says says′)
+  case-fixed (off-grid long p) (meeting long′ h h′ share) = absurd (never-off a b h h′ p)
+  case-fixed (off-grid long p) (apart long′ h h′ none) = absurd (never-off a b h h′ p)
+  case-fixed (meeting long h h′ share) (short-or-long g) = absurd (g long)
+  case-fixed (meeting long h h′ share) (off-grid long′ q) = absurd (never-off a b h h′ q)
+  case-fixed (meeting long h h′ share) (meeting long′ g g′ share′) = refl
+  case-fixed (meeting long h h′ share) (apart long′ g g′ none) = absurd (none share)
+  case-fixed (apart long h h′ none) (short-or-long g) = absurd (g long)
+  case-fixed (apart long h h′ none) (off-grid long′ q) = absurd (never-off a b h h′ q)
+  case-fixed (apart long h h′ none) (meeting long′ g g′ share) = absurd (none share)
+  case-fixed (apart long h h′ none) (apart long′ g g′ none′) = refl
 
   -- The door's number is a number exactly in the case of that number.
   pub bytes-exactly : {r : ℕ} → BytesTold a b r → (s : ℕ) → BytesCase a b s ↔ (r ≡ s)
@@ -85,7 +92,8 @@ case-traded : {a b : List ℕ} {r : ℕ} → BytesCase a b r → BytesCase b a r
 case-traded (short-or-long h) = short-or-long (λ long. h (long .1, long .0))
 case-traded (off-grid long (inl p)) = off-grid (long .1, long .0) (inr p)
 case-traded (off-grid long (inr p)) = off-grid (long .1, long .0) (inl p)
-case-traded (verdict long h h′ v says) = verdict (long .1, long .0) h′ h v (says-same (share-trade, share-trade) says)
+case-traded (meeting long h h′ share) = meeting (long .1, long .0) h′ h (share-trade share)
+case-traded (apart long h h′ none) = apart (long .1, long .0) h′ h (λ share. none (share-trade share))
 
 -- Side and place aren't carried, so the number is the same.
 pub bytes-traded : {a b : List ℕ} {r s : ℕ} → BytesTold a b r → BytesTold b a s → r ≡ s

@@ -9,6 +9,8 @@
 --   Order         the pairs are exactly those that have a point in common, each once, rising
 --   Table         each reason exactly in its case
 --   Unique        no second answer and no second buffer
+-- and rows of the definitions:
+--   OrderRows     the order of the pairs, and of the two numbers of each
 pub mod Gathering
 pub mod Telling
 pub mod Filling
@@ -18,3 +20,4 @@ pub mod Found
 pub mod Order
 pub mod Table
 pub mod Unique
+pub mod OrderRows

@@ -71,6 +71,7 @@ decide-words-requires c κs =
         room = omega (arith, rough .before .before .others2 .given, p .pre .1 .few);
         normal = others .put-normals2 .ensures;
       },
+      omega (arith, others .before .before .planes2 .given, p .pre .0 .few),
       (λ wide. (
         record { room = omega (arith, others .before .before .planes2 .given, p .pre .0 .few); plane = planes .put-planes-unless .ensures wide },
         record { room = omega (arith, c .before .before .before .before .before .rough2 .given, p .pre .1 .few); plane = rough .put-planes-unless2 .ensures wide },

@@ -10,67 +10,13 @@ use Rattle.deciding.proofs.deciding.decide_word_of.Statement.{statement
 use Rattle.deciding.proofs.deciding.decide_word_of.Tie as tie
 
 returns : tie.Need-returns
-returns c = none-decided (c .before .before .before .pre .5) (c .if1 .taken)
+returns c = none-decided (c .before .before .before .pre .6) (c .if1 .taken)
 
 mul-at : tie.Need-mul-at
 mul-at c = search needs
 
 mul-normal-at : tie.Need-mul-normal-at
 mul-normal-at c = search needs
-
-add-decide-narrow-word : tie.Need-add-decide-narrow-word
-add-decide-narrow-word c = search needs
-
-mul-decide-narrow-word : tie.Need-mul-decide-narrow-word
-mul-decide-narrow-word c = search needs
-
-sub-decide-narrow-word : tie.Need-sub-decide-narrow-word
-sub-decide-narrow-word c = search needs
-
-part-decide-narrow-word-start : tie.Need-part-decide-narrow-word-start
-part-decide-narrow-word-start c = search needs
-
-part-decide-narrow-word-end : tie.Need-part-decide-narrow-word-end
-part-decide-narrow-word-end c = search needs
-
-add-decide-narrow-word-2 : tie.Need-add-decide-narrow-word-2
-add-decide-narrow-word-2 c = search needs
-
-mul-decide-narrow-word-2 : tie.Need-mul-decide-narrow-word-2
-mul-decide-narrow-word-2 c = search needs
-
-sub-decide-narrow-word-2 : tie.Need-sub-decide-narrow-word-2
-sub-decide-narrow-word-2 c = search needs
-
-part-decide-narrow-word-start-2 : tie.Need-part-decide-narrow-word-start-2
-part-decide-narrow-word-start-2 c = search needs
-
-part-decide-narrow-word-end-2 : tie.Need-part-decide-narrow-word-end-2
-part-decide-narrow-word-end-2 c = search needs
-
-mul-decide-narrow-word-3 : tie.Need-mul-decide-narrow-word-3
-mul-decide-narrow-word-3 c = search needs
-
-decide-narrow-word-requires : tie.Need-decide-narrow-word-requires
-decide-narrow-word-requires c κs =
-    let p = c .before .before .before .before .before .before in
-    let a = p .args in
-    let i = a .k / 16 in
-    let inside : i < triangles (a .first .now) = omega (arith, p .pre .4) in
-    let small = p .pre .3 (c .before .before .if2 .taken) in
-    rw (part (9 * i) 9 (a .first .now), part (3 * i) 3 (a .normals .now)) (
-      record { ready = p .pre .0 .sound .ready i inside; is-normal = p .pre .0 .normal i inside },
-      p .pre .1,
-      omega arith,
-      p .pre .5,
-      narrow-nine i (a .first .now) (small .0),
-      small .1,
-    )
-
-returns-2 : tie.Need-returns-2
-returns-2 c =
-    let a = c .before .before .before .before .before .before .before .args in
-    rw (← (part (9 * (a .k / 16)) 9 (a .first .now))) (c .decide-narrow-word .ensures)
 
 add-decide-word : tie.Need-add-decide-word
 add-decide-word c = search needs
@@ -116,8 +62,7 @@ part-decide-word-start-3 c = search needs
 
 part-decide-word-end-3 : tie.Need-part-decide-word-end-3
 part-decide-word-end-3 c =
-    let left = c .before .before in
-    let room = left .before .before .before .before .pre .2 (left .if2 .left) .0 .room in
+    let room = c .before .before .before .before .before .pre .2 in
     search (needs, room)
 
 mul-decide-word-4 : tie.Need-mul-decide-word-4
@@ -125,23 +70,22 @@ mul-decide-word-4 c = search needs
 
 decide-word-requires : tie.Need-decide-word-requires
 decide-word-requires c κs =
-    let p = c .before .before .before .before .before .before .before in
+    let p = c .before .before .before .before .before .before in
     let a = p .args in
     let i = a .k / 16 in
-    let inside : i < triangles (a .first .now) = omega (arith, p .pre .4) in
-    let planned = p .pre .2 (c .before .before .before .if2 .left) in
+    let inside : i < triangles (a .first .now) = omega (arith, p .pre .5) in
     rw (part (9 * i) 9 (a .first .now), part (3 * i) 3 (a .normals .now), part (3 * i) 3 (a .planes .now)) (
       record { ready = p .pre .0 .sound .ready i inside; is-normal = p .pre .0 .normal i inside },
-      planned .0 .plane i inside,
       p .pre .1,
-      planned .1,
+      (λ wide. (p .pre .3 wide .0 .plane i inside, p .pre .3 wide .1)),
+      (λ flag. (narrow-nine i (a .first .now) (p .pre .4 flag .0), p .pre .4 flag .1)),
       omega arith,
-      p .pre .5,
+      p .pre .6,
     )
 
-returns-3 : tie.Need-returns-3
-returns-3 c =
-    let a = c .before .before .before .before .before .before .before .before .args in
+returns-2 : tie.Need-returns-2
+returns-2 c =
+    let a = c .before .before .before .before .before .before .before .args in
     rw (← (part (9 * (a .k / 16)) 9 (a .first .now))) (c .decide-word .ensures)
 
 pub decide-word-of-spec : {M : Type 1} → statement M
@@ -151,19 +95,6 @@ decide-word-of-spec =
     returns
     mul-at
     mul-normal-at
-    add-decide-narrow-word
-    mul-decide-narrow-word
-    sub-decide-narrow-word
-    part-decide-narrow-word-start
-    part-decide-narrow-word-end
-    add-decide-narrow-word-2
-    mul-decide-narrow-word-2
-    sub-decide-narrow-word-2
-    part-decide-narrow-word-start-2
-    part-decide-narrow-word-end-2
-    mul-decide-narrow-word-3
-    decide-narrow-word-requires
-    returns-2
     add-decide-word
     mul-decide-word
     sub-decide-word
@@ -181,4 +112,4 @@ decide-word-of-spec =
     part-decide-word-end-3
     mul-decide-word-4
     decide-word-requires
-    returns-3)
+    returns-2)

@@ -38,8 +38,8 @@ decide-word-of-requires c κs =
     let a = p .args in
     let more = c .before .loop-test .taken in
     let may : MayMeet (nine (l .k / 16) (a .first .now)) (a .second .now) (firstOf (l .k)) (span (triangles (a .second .now)) (firstOf (l .k))) (getD (l .words) (l .k) 0) =
-    rw (l .inv .3 (l .k) (omega arith)) (p .pre .5 (l .k) (omega (arith, more))) in
-    (p .pre .0, p .pre .1, p .pre .2, p .pre .3, omega (arith, more), may)
+    rw (l .inv .3 (l .k) (omega arith)) (p .pre .6 (l .k) (omega (arith, more))) in
+    (p .pre .0, p .pre .1, p .pre .2, p .pre .3, p .pre .4, omega (arith, more), may)
 
 mul-words : tie.Need-mul-words Inv-loop μ-loop
 mul-words c = search needs
@@ -79,7 +79,7 @@ loop-again c =
     let k = l .k in
     let word = c .before .decide-word-of in
     let more = c .before .before .before .loop-test .taken in
-    let inside : k < length (l .words) = omega (arith, l .inv .1, p .pre .4, more) in (
+    let inside : k < length (l .words) = omega (arith, l .inv .1, p .pre .5, more) in (
       omega (arith, more),
       length-set (l .words) k (word .result) ∙ l .inv .1,
       decided-on inside (l .inv .2) (word .ensures) (c .ones-of .ensures .0 _ (word .ensures .small)),
