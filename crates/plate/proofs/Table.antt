@@ -13,8 +13,10 @@ use lib.IntN.{ℤ}
 use lib.ListN.{length, getD, List·getD-eq-default}
 use Rattle.shape.specs.Points.{moved}
 use Rattle.shape.specs.Flat.{Flat}
+use Rattle.shape.specs.Verdicts.{Says}
 use Rattle.shape.specs.Shells.{isClosed}
 use Rattle.shape.proofs.VerdictLaws.{says-yes, says-no, says-fixed}
+use Rattle.shape.proofs.Closed.{ClosedShell, closed-says}
 use Rattle.checks.specs.Answers.{Answer, served, refused, Check, fine, _then_, numberOf, sideOf, placeOf}
 use Rattle.checks.specs.Grid.{lowestOff, allOn}
 use Rattle.checks.specs.Rules.{rightLength, notFlat, refuses-flat, shapeChecks}
@@ -122,12 +124,12 @@ pub data UndoCase (h : History) : (number side spot : ℕ) → Type 0 where
   -- Served: the reach is above 0.
   undo-served : 0 < h .reach → UndoCase h 0 0 0
 
--- The shell of part q is closed; it is open.
+-- The shell of part q is closed: each directed edge of its triangles occurs once and its reverse once. Else it is open.
 abbrev pub Closed : List Slot → ℕ → Type 0
-Closed S q = isClosed (trianglesOf q S) ≡ true
+Closed S q = ClosedShell (trianglesOf q S)
 
 abbrev pub Open : List Slot → ℕ → Type 0
-Open S q = isClosed (trianglesOf q S) ≡ false
+Open S q = Closed S q → ⊥
 
 -- The question whether the parts p and q clash, on the slots S.
 pub data PartsCase (S : List Slot) (p q : ℕ) : (number side spot : ℕ) → Type 0 where
@@ -437,6 +439,13 @@ module _ (S : List Slot) where
   change-exactly c = exactly (changeChecks S c) (ChangeCase S c) (from-change c) (some-change c)
 
 -- ---- the parts call
+-- What the test in the rule says of a shell that is closed, or open.
+test-closed : (S : List Slot) (q : ℕ) → Closed S q → isClosed (trianglesOf q S) ≡ true
+test-closed S q closed = says-fixed (closed-says (trianglesOf q S)) (says-yes closed)
+
+test-open : (S : List Slot) (q : ℕ) → Open S q → isClosed (trianglesOf q S) ≡ false
+test-open S q wide = says-fixed (closed-says (trianglesOf q S)) (says-no wide)
+
 module _ (S : List Slot) (p q : ℕ) {answer : Answer Bool} (rule : PartsRule S p q answer) where
   -- Where the checks refuse, and where they are fine.
   told-refused : {n s k : ℕ} → partsChecks S p q ≡ refused n s k → answer ≡ refused n s k
@@ -456,10 +465,10 @@ module _ (S : List Slot) (p q : ℕ) {answer : Answer Bool} (rule : PartsRule S 
       gives-as (told-refused (rw (le-ltb 15 p a, le-ltb 15 q b, has-some p S h, none-some q S none)))
   from-parts number side spot (first-open a b h g other apart wide) =
       let is : answer ≡ refused 16 0 p =
-      told-fine (there a b h g) ∙ rw (ne-eqb p q other, says-fixed (rule .skins-right) (says-no apart), wide) in gives-as is
+      told-fine (there a b h g) ∙ rw (ne-eqb p q other, says-fixed (rule .skins-right) (says-no apart), test-open S p wide) in gives-as is
   from-parts number side spot (second-open a b h g other apart closed wide) =
       let is : answer ≡ refused 16 1 q =
-      told-fine (there a b h g) ∙ rw (ne-eqb p q other, says-fixed (rule .skins-right) (says-no apart), closed, wide) in gives-as is
+      told-fine (there a b h g) ∙ rw (ne-eqb p q other, says-fixed (rule .skins-right) (says-no apart), test-closed S p closed, test-open S q wide) in gives-as is
   from-parts number side spot (parts-served a b h g (inl e)) =
       let is : answer ≡ served false = told-fine (there a b h g) ∙ rw (eq-eqb p q e) in gives-as is
   from-parts number side spot (parts-served a b h g (inr (inl clash))) =
@@ -469,7 +478,7 @@ module _ (S : List Slot) (p q : ℕ) {answer : Answer Bool} (rule : PartsRule S 
       also-served true e = gives-as e
       also-served false e = gives-as e
   from-parts number side spot (parts-served a b h g (inr (inr closed))) =
-      also-served (eqb p q) (rule .skins) (told-fine (there a b h g) ∙ rw (closed .0, closed .1))
+      also-served (eqb p q) (rule .skins) (told-fine (there a b h g) ∙ rw (test-closed S p (closed .0), test-closed S q (closed .1)))
     where
       also-served : (b v : Bool) → answer ≡ cond b (served false) (cond v (served true) (served (rule .inside))) → Gives answer 0 0 0
       also-served true v e = gives-as e
@@ -479,18 +488,21 @@ module _ (S : List Slot) (p q : ℕ) {answer : Answer Bool} (rule : PartsRule S 
   some-parts : SomeCase (PartsCase S p q)
   some-parts = decide (at-most-or-above p 15) (at-most-or-above q 15) (has-or-none p S) (has-or-none q S)
     where
-      closing : (v w : Bool) → isClosed (trianglesOf p S) ≡ v → isClosed (trianglesOf q S) ≡ w → p ≤ 15 → q ≤ 15 → HasPart S p → HasPart S q →
+      closing : {v w : Bool} → Says v (Closed S p) → Says w (Closed S q) → p ≤ 15 → q ≤ 15 → HasPart S p → HasPart S q →
           (p ≡ q → ⊥) → (SkinsMeet S p q → ⊥) → SomeCase (PartsCase S p q)
-      closing false w e f a b h g other apart = record { number = 16; side = 0; spot = p; found = first-open a b h g other apart e }
-      closing true false e f a b h g other apart = record { number = 16; side = 1; spot = q; found = second-open a b h g other apart e f }
-      closing true true e f a b h g other apart = record { number = 0; side = 0; spot = 0; found = parts-served a b h g (inr (inr (e, f))) }
+      closing {v = false} s t a b h g other apart =
+          record { number = 16; side = 0; spot = p; found = first-open a b h g other apart (s .no refl) }
+      closing {v = true} {w = false} s t a b h g other apart =
+          record { number = 16; side = 1; spot = q; found = second-open a b h g other apart (s .yes refl) (t .no refl) }
+      closing {v = true} {w = true} s t a b h g other apart =
+          record { number = 0; side = 0; spot = 0; found = parts-served a b h g (inr (inr (s .yes refl, t .yes refl))) }
 
       skins : (same v : Bool) → eqb p q ≡ same → rule .skins ≡ v → p ≤ 15 → q ≤ 15 → HasPart S p → HasPart S q → SomeCase (PartsCase S p q)
       skins true v e f a b h g = record { number = 0; side = 0; spot = 0; found = parts-served a b h g (inl (eqb-true p q e)) }
       skins false true e f a b h g =
           record { number = 0; side = 0; spot = 0; found = parts-served a b h g (inr (inl (rule .skins-right .yes f))) }
       skins false false e f a b h g =
-          closing (isClosed (trianglesOf p S)) (isClosed (trianglesOf q S)) refl refl a b h g (eqb-false p q e) (rule .skins-right .no f)
+          closing (closed-says (trianglesOf p S)) (closed-says (trianglesOf q S)) a b h g (eqb-false p q e) (rule .skins-right .no f)
 
       decide : (p ≤ 15) ⊎ (15 < p) → (q ≤ 15) ⊎ (15 < q) → HasPart S p ⊎ NoPart S p → HasPart S q ⊎ NoPart S q → SomeCase (PartsCase S p q)
       decide (inr a) b h g = record { number = 7; side = 0; spot = p; found = first-above a }

@@ -32,6 +32,7 @@ pub mod AheadAt
 pub mod AheadTest
 pub mod InsideTest
 pub mod TriangleLists
+pub mod Closed
 pub mod ShellRows
 pub mod ShellMoves
 pub mod Bench

@@ -3,6 +3,7 @@
 use mathlib.Core.Path.{_≡_, refl, sym, ap, _∙_}
 use mathlib.Core.Bool.{Bool, true, false, cond}
 use mathlib.Core.List.{List, [], _∷_, _++_, append-assoc}
+use mathlib.Core.Logic.{_↔_}
 use Prim.Native.Nat.{ℕ, zero, suc, _<_, _≤_}
 use native.Mathlib.Omega.{arith}
 use lib.ListN.{length, getD}
@@ -83,6 +84,12 @@ how-many-unique (one c h) (one d k) = ap suc (how-many-unique h k)
 how-many-unique (one c h) (pass d k) = absurd (d c)
 how-many-unique (pass c h) (one d k) = absurd (c d)
 how-many-unique (pass c h) (pass d k) = how-many-unique h k
+
+-- Properties that hold together are counted alike.
+pub how-many-as : {A : Type 0} {Has Other : A → Type 0} {l : List A} {n : ℕ} → ((x : A) → Has x ↔ Other x) → HowMany Has l n → HowMany Other l n
+how-many-as same none = none
+how-many-as same (one {x} c h) = one (same x .0 c) (how-many-as same h)
+how-many-as same (pass {x} c h) = pass (λ d. c (same x .1 d)) (how-many-as same h)
 
 pub how-many-most : {A : Type 0} {Has : A → Type 0} {l : List A} {n : ℕ} → HowMany Has l n → n ≤ length l
 how-many-most none = omega arith

@@ -37,7 +37,7 @@ edgesOf (a ∷ b ∷ []) = []
 edgesOf (a ∷ b ∷ c ∷ []) = (a, b) ∷ (b, c) ∷ (c, a) ∷ []
 edgesOf (a ∷ b ∷ c ∷ d ∷ more) = []
 
--- ---- closed
+-- ---- closed, as a test that computes: `closed-says` of proofs/Closed.antt shows that it tells the closed shells
 -- How often an edge occurs in a list.
 abbrev pub occurs : Edge → List Edge → ℕ
 occurs e [] = 0
