@@ -18,6 +18,10 @@ pub data Bytes : List ℕ → Type 0 where
   none : Bytes []
   one : {b : ℕ} {l : List ℕ} → b < 256 → Bytes l → Bytes (b ∷ l)
 
+pub bytes-append : {l m : List ℕ} → Bytes l → Bytes m → Bytes (l ++ m)
+bytes-append none c = c
+bytes-append (one h b) c = one h (bytes-append b c)
+
 -- Every element is a signed number of 32 bits.
 pub data Words : List ℤ → Type 0 where
   none : Words []
@@ -27,6 +31,10 @@ pub data Words : List ℤ → Type 0 where
 pub length-spread : (k n : ℕ) → length (spread k n) ≡ k
 length-spread zero n = refl
 length-spread (suc k) n = ap suc (length-spread k (n / 256))
+
+pub spread-bytes : (k n : ℕ) → Bytes (spread k n)
+spread-bytes zero n = none
+spread-bytes (suc k) n = one {b = n % 256} (omega arith) (spread-bytes k (n / 256))
 
 pub spread-read : (k n : ℕ) → n < 256 ^ k → lowFirst (spread k n) ≡ n
 spread-read zero n h = omega arith
@@ -77,6 +85,11 @@ bytes-read (suc k) (one {b = a} p (one {b = b} f (one {b = c} g (one {b = d} {l 
     let this : spread 4 (bitsOf (signedOf word)) ≡ a ∷ b ∷ c ∷ d ∷ [] =
     ap (spread 4) (bits-signed (record { fits = small })) ∙ read-spread (one p (one f (one g (one h none)))) in
     (λ i. this i ++ bytes-read k more (omega (arith, e)) i)
+
+-- What is written are bytes, four a number.
+pub numbers-bytes : (numbers : List ℤ) → Bytes (bytesOf numbers)
+numbers-bytes [] = none
+numbers-bytes (z ∷ numbers) = bytes-append (spread-bytes 4 (bitsOf z)) (numbers-bytes numbers)
 
 pub length-bytes : (numbers : List ℤ) → length (bytesOf numbers) ≡ 4 * length numbers
 length-bytes [] = refl
