@@ -12,8 +12,8 @@
 --
 --   product-in-range : {a b c : ℤ} → Within 1000000 a → Within 1000000 b → Within 1000000 c → SFits w64 (toZ w64 (ofZ w64 (a -ℤ b)) *ℤ c)
 --   product-in-range a b c = in-range (product (held w64 (difference (exact a) (exact b)) tt) (exact c)) tt
-use mathlib.Core.Path.{_≡_, refl, sym, _∙_, subst}
-use Prim.Native.Nat.{ℕ, _+_, _*_, _^_, _≤_, _<_}
+use mathlib.Core.Path.{_≡_, refl, sym, ap, _∙_, subst}
+use Prim.Native.Nat.{ℕ, zero, suc, _+_, _*_, _^_, _≤_, _<_}
 use native.Mathlib.Omega.{arith}
 use lib.Dec.{T, ltb, ltb→lt}
 use lib.IntN.{ℤ, pos, negsuc, natAbs, _+ℤ_, _-ℤ_, _*ℤ_}
@@ -71,3 +71,8 @@ difference r s = record { is = (λ i. r .is i -ℤ s .is i); within = within-sub
 
 pub product : {v z v′ z′ : ℤ} {m n : ℕ} → Reads v z m → Reads v′ z′ n → Reads (v *ℤ v′) (z *ℤ z′) (m * n)
 product r s = record { is = (λ i. r .is i *ℤ s .is i); within = within-mul (r .within) (s .within) }
+
+-- what is left of -1, as code reads a word from the middle on
+pub from-minus-one : (n : ℕ) → negsuc 0 -ℤ pos n ≡ negsuc n
+from-minus-one zero = refl
+from-minus-one (suc k) = ap negsuc {x = suc (0 + k)} {y = suc k} (omega arith)

@@ -222,13 +222,27 @@ zero-of-mul a b h e = go (three-way b)
 
 -- ---- two numbers compared
 
+-- by the test that computes
+pub lt-true : {a b : ℤ} → ltZ a b ≡ true → a <ℤ b
+lt-true e = ltZ-yes (subst T (sym e) tt)
+
+pub lt-test : {a b : ℤ} → a <ℤ b → ltZ a b ≡ true
+lt-test {a} {b} h = by-test (ltZ a b) (h .lt)
+  where
+    by-test : (t : Bool) → T t → t ≡ true
+    by-test true h = refl
+    by-test false h = absurd h
+
+pub lt-false : {a b : ℤ} → ltZ a b ≡ false → b ≤ℤ a
+lt-false e = ltZ-no (subst T (sym (ap not e)) tt)
+
 -- the first is below the second, or not
 pub lt-or-ge : (a b : ℤ) → (a <ℤ b) ⊎ (b ≤ℤ a)
 lt-or-ge a b = by-test (ltZ a b) refl
   where
     by-test : (t : Bool) → ltZ a b ≡ t → (a <ℤ b) ⊎ (b ≤ℤ a)
-    by-test true e = inl (ltZ-yes (subst T (sym e) tt))
-    by-test false e = inr (ltZ-no (subst (λ (t : Bool). T (not t)) (sym e) tt))
+    by-test true e = inl (lt-true e)
+    by-test false e = inr (lt-false e)
 
 -- neither is below the other: equal
 pub le-antisym : {a b : ℤ} → a ≤ℤ b → b ≤ℤ a → a ≡ b

@@ -1,18 +1,17 @@
 -- Boxes: what the code reads of a list, the best of three numbers, and boxes that are apart, so that the triangles in them are. Assumes nothing.
 use mathlib.Core.Path.{_≡_, refl, sym, ap, subst, _∙_}
-use mathlib.Core.Bool.{Bool, true, false, not, cond}
+use mathlib.Core.Bool.{Bool, true, false, cond}
 use mathlib.Core.List.{List}
 use Prim.Native.Nat.{ℕ, zero, suc, _+_, _^_, _<_}
 use native.Mathlib.Omega.{arith}
 use borrow.Author.Needs.{sfits-of}
-use lib.Dec.{T}
 use lib.IntN.{ℤ, pos}
 use lib.ListN.{getD}
-use lib.Signed.{ltZ, mag, _≤ℤ_, _<ℤ_, ltZ-yes, ltZ-no, ≤ℤ-refl, <ℤ-≤ℤ-trans}
+use lib.Signed.{ltZ, mag, _≤ℤ_, _<ℤ_, ≤ℤ-refl, <ℤ-≤ℤ-trans}
 use mir.Syntax.{w32}
 use mir.Val.{toZ, ofZ, hbits}
 use mir.Facts.{toZ-ofZ}
-use Rattle.algebra.proofs.Order.{le-of-lt, ≤ℤ-trans}
+use Rattle.algebra.proofs.Order.{lt-true, lt-false, le-of-lt, ≤ℤ-trans}
 use Rattle.shape.specs.Points.{coord, pointAt, pointsAt}
 use Rattle.shape.specs.Sharing.{Share}
 use Rattle.shape.proofs.Apart.{apart-along}
@@ -86,20 +85,7 @@ pub before-read : (c : ℕ) (first second : List ℤ) → Fits (getD first (c + 
     ltZ (kept (getD first (c + 3) (pos 0))) (kept (getD second c (pos 0))) ≡ before c first second
 before-read c first second = read-same ltZ (getD first (c + 3) (pos 0)) (getD second c (pos 0))
 
--- ---- the order of ℤ
-pub lt-true : {x y : ℤ} → ltZ x y ≡ true → x <ℤ y
-lt-true e = ltZ-yes (subst T (sym e) tt)
-
-pub lt-test : {x y : ℤ} → x <ℤ y → ltZ x y ≡ true
-lt-test {x} {y} h = by-test (ltZ x y) (h .lt)
-  where
-    by-test : (t : Bool) → T t → t ≡ true
-    by-test true h = refl
-    by-test false h = absurd h
-
-pub lt-false : {x y : ℤ} → ltZ x y ≡ false → y ≤ℤ x
-lt-false e = ltZ-no (subst T (sym (ap not e)) tt)
-
+-- ---- the best of three
 -- The least is at most each of the three, and the greatest at least.
 least : (c : ℕ) (l : List ℤ) → let g = bestAt smaller c l in
     (g ≤ℤ getD l c (pos 0)) × (g ≤ℤ getD l (c + 3) (pos 0)) × (g ≤ℤ getD l (c + 6) (pos 0))

@@ -5,13 +5,14 @@ use mathlib.Core.Bool.{Bool, true, false, cond}
 use mathlib.Core.List.{List}
 use Prim.Native.Nat.{ℕ, _≤_}
 use native.Mathlib.Omega.{arith}
-use borrow.Author.Tests.{eqb-true, eqb-false, ltb-true, ltb-false}
+use borrow.Author.Tests.{eqb-true, eqb-false, ltb-true, ltb-false, le-leb}
 use lib.Dec.{eqb, ltb}
 use lib.IntN.{ℤ, pos, natAbs}
 use lib.ListN.{length, getD, take, drop}
 use Rattle.shape.specs.Points.{Shape}
 use Rattle.shape.specs.Flat.{Flat, isFlat}
 use Rattle.shape.specs.Verdicts.{Says}
+use Rattle.shape.proofs.VerdictLaws.{says-yes, says-fixed}
 use Rattle.shape.proofs.FlatLaws.{is-flat}
 use Rattle.exact.proofs.GridLaws.{small-taken, small-dropped}
 use Rattle.checks.specs.Answers.{refused, fine}
@@ -19,7 +20,7 @@ use Rattle.exact.specs.Grid.{limit, Ready}
 use Rattle.checks.specs.Grid.{lowestOff, allOn}
 use Rattle.checks.specs.Rules.{rightLength, allOnGrid, FlatShapes, refuses-flat, takes-flat, flatChecks}
 use Rattle.checks.proofs.AnswerLaws.{never-fine}
-use Rattle.checks.proofs.GridLaws.{Lowest, lowest, lowest-one, all-on, none-off, one-off}
+use Rattle.checks.proofs.GridLaws.{Lowest, lowest, lowest-one, all-on, all-on-says, none-off, one-off}
 
 -- ---- the length
 pub data LengthCase (side want : ℕ) (l : List ℤ) : Type 0 where
@@ -66,6 +67,13 @@ on-take = small-taken limit
 
 pub on-drop : (n : ℕ) (l : List ℤ) → OnGrid l → OnGrid (drop n l)
 on-drop = small-dropped limit
+
+-- Both ways from the test that code makes of all numbers.
+pub on-all : (l : List ℤ) → OnGrid l → allOn l ≡ true
+on-all l h = says-fixed (all-on-says l) (says-yes (λ k i. le-leb (natAbs (getD l k (pos 0))) limit (h k)))
+
+pub all-on-grid : (l : List ℤ) → allOn l ≡ true → OnGrid l
+all-on-grid l on = all-on l (ltb-false (lowestOff l) (length l) (none-off l on))
 
 pub data GridCase (side : ℕ) (l : List ℤ) : Type 0 where
   all : OnGrid l → allOnGrid side l ≡ fine → GridCase side l

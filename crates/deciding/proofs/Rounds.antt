@@ -3,7 +3,7 @@ use mathlib.Core.Path.{_≡_, refl, sym, ap, subst, _∙_}
 use mathlib.Core.Bool.{Bool, true, false, _&&_, _||_}
 use mathlib.Core.List.{List}
 use mathlib.Core.Logic.{_⊎_, inl, inr}
-use Prim.Native.Nat.{ℕ, _+_, _*_, _<_, _≤_}
+use Prim.Native.Nat.{ℕ, _<_, _≤_}
 use native.Mathlib.Omega.{arith}
 use borrow.Author.Tests.{eqb-true, eqb-false, ltb-true, ltb-false}
 use lib.Dec.{eqb, ltb}
@@ -11,10 +11,10 @@ use lib.Ieee.{Float}
 use lib.IntN.{ℤ}
 use lib.ListN.{getD}
 use lib.Pow.{pow-pos}
-use Rattle.kernel.specs.Meeting.{Judges}
-use Rattle.kernel.specs.Standings.{StandsTo, Stood}
+use Rattle.kernel.specs.Standings.{Stood}
 use Rattle.kernel.proofs.Stages.{judged-crossing, beside-apart}
 use Rattle.exact.specs.Grid.{Ready}
+use Rattle.exact.proofs.Branches.{both-true}
 use Rattle.words.specs.Bits.{bit}
 use Rattle.words.proofs.BitLaws.{bit-of-none}
 use Rattle.words.proofs.Filling.{both}
@@ -51,10 +51,6 @@ asked-for {start} {asked} {word} marks z set none = by-bit (bit z asked) refl
 either-false : (a b : Bool) → a || b ≡ false → (a ≡ false) × (b ≡ false)
 either-false true b e = both refl e
 either-false false b e = (refl, e)
-
-pub both-true : (a b : Bool) → a && b ≡ true → (a ≡ true) × (b ≡ true)
-both-true true b e = (refl, e)
-both-true false b e = both e refl
 
 not-alone : (s : ℕ) → s < 16 → ltb 1 s && ltb s 16 ≡ false → s ≤ 1
 not-alone s few e = by-test (ltb 1 s) refl

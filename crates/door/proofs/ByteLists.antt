@@ -65,6 +65,6 @@ as-lists {first} {second} {told} d d′ (wrong-length h e) rule = e ∙ by-lengt
     told-three {side} {place} c = sym (refusal-number told 2 (pair-exactly takes-flat 3 3 3 first second told rule 3 side place .0 c .0))
 
     by-length : LengthCase 0 9 first → LengthCase 1 9 second → 103 ≡ oneNumber (withServed verdictCode told)
-    by-length (wrong g p) c = told-three (first-length g (refl, refl, refl))
-    by-length (right g p) (wrong g′ q) = told-three (second-length g g′ (refl, refl, refl))
+    by-length (wrong g p) c = told-three (first-length g)
+    by-length (right g p) (wrong g′ q) = told-three (second-length g g′)
     by-length (right g p) (right g′ q) = absurd (d .other (λ long-a. d′ .other (λ long-b. h (long-a, long-b)) g′) g)

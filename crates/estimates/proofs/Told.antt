@@ -3,16 +3,15 @@
 use mathlib.Core.Path.{_≡_, refl, sym, _∙_, subst}
 use mathlib.Core.Bool.{true, false}
 use mathlib.Core.List.{[], _∷_}
-use mathlib.Core.Logic.{_⊎_, inl, inr}
 use Prim.Native.Nat.{zero, suc, _+_, _≤_}
 use native.Mathlib.Omega.{arith}
 use lib.Dec.{T, ltb→lt, lit≤}
 use lib.IntN.{ℤ, pos, negsuc, negℤ, natAbs, _+ℤ_, _-ℤ_}
-use lib.Signed.{ltZ, _≤ℤ_, _<ℤ_}
+use lib.Signed.{_≤ℤ_, _<ℤ_}
 use lib.Ieee.{Float, binary64, ofBits, ofInt}
 use Rattle.algebra.proofs.Expression.{var, lit, neg, _⊞_, _⊟_}
 use Rattle.algebra.proofs.Certificate.{_≦_, _≺_, hyp, num, _⊕_, prove≤, prove<}
-use Rattle.algebra.proofs.Order.{lt-or-ge}
+use Rattle.algebra.proofs.Order.{lt-false}
 use Rattle.algebra.proofs.Bound.{at-most, at-least, within-both}
 use Rattle.shape.specs.Points.{Point}
 use Rattle.shape.specs.Signs.{side, sign}
@@ -74,22 +73,15 @@ not-below : (g z n : ℤ) → negℤ n ≤ℤ g → (g -ℤ z) ≤ℤ n → neg�
 not-below g z n =
     prove≤ (g ∷ z ∷ n ∷ []) ((neg (var 2) ≦ var 0) ∷ (var 0 ⊟ var 1 ≦ var 2) ∷ []) (neg (var 1)) (var 2 ⊞ var 2) (num 1) (hyp 0 ⊕ hyp 1) tt tt refl
 
-not-less : (x y : ℤ) → ltZ x y ≡ false → y ≤ℤ x
-not-less x y e = by-order (lt-or-ge x y)
-  where
-    by-order : (x <ℤ y) ⊎ (y ≤ℤ x) → y ≤ℤ x
-    by-order (inl h) = absurd (subst T e (h .lt))
-    by-order (inr h) = h
-
 pub near-between : {e : Float} {z : ℤ} → Near e z errorLimit → farAbove e ≡ false → farBelow e ≡ false → natAbs z ≤ errorLimit + errorLimit
 near-between {e} {z} n above below =
     let near = n .near in
     within-both z (errorLimit + errorLimit)
     (not-above (n .number) z (pos errorLimit)
-    (not-less (pos errorLimit) (n .number) (sym (less-whole limit-whole (n .whole)) ∙ above))
+    (lt-false (sym (less-whole limit-whole (n .whole)) ∙ above))
     (at-least (n .number -ℤ z) errorLimit near))
     (not-below (n .number) z (pos errorLimit)
-    (not-less (n .number) (negℤ (pos errorLimit)) (sym (less-whole (n .whole) (neg-whole limit-whole)) ∙ below))
+    (lt-false (sym (less-whole (n .whole) (neg-whole limit-whole)) ∙ below))
     (at-most (n .number -ℤ z) errorLimit near))
 
 -- ---- for callers

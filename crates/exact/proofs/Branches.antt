@@ -1,6 +1,6 @@
 -- A decision by tests (`cond`), read off the branch that code took; and a number by cases. Assumes nothing.
 use mathlib.Core.Path.{_≡_, refl, sym, ap, _∙_}
-use mathlib.Core.Bool.{Bool, true, false, not, cond}
+use mathlib.Core.Bool.{Bool, true, false, not, _&&_, cond, true≢false}
 use Prim.Native.Nat.{ℕ, zero, suc, _+_, _<_, _≤_}
 use native.Mathlib.Omega.{arith}
 use native.Mathlib.Decide.{ℕ-discrete}
@@ -42,6 +42,11 @@ as-it-is {t} e = e ∙ itself t
 pub bit≤ : (b : Bool) → boolByte b ≤ 1
 bit≤ true = omega arith
 bit≤ false = omega arith
+
+-- Two tests that are passed together are passed each.
+pub both-true : (a b : Bool) → a && b ≡ true → (a ≡ true) × (b ≡ true)
+both-true true b e = (refl, e)
+both-true false b e = absurd (true≢false (sym e))
 
 -- A number that is neither 0 nor 1, where everything from 2 on is taken as 2.
 pub two-or-more : {A : Type 0} (f : ℕ → A) → ((n : ℕ) → f 2 ≡ f (suc (suc n))) → (k : ℕ) → (k ≡ 0 → ⊥) → (k ≡ 1 → ⊥) → f 2 ≡ f k

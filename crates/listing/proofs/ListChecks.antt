@@ -6,21 +6,14 @@ use mathlib.Core.List.{List}
 use mathlib.Core.Logic.{_⊎_, inl, inr}
 use Prim.Native.Nat.{ℕ, _*_, _%_, _<_, _≤_}
 use native.Mathlib.Omega.{arith}
-use borrow.Author.Tests.{leb-true, leb-false, eqb-true, eqb-false, le-leb, lt-leb, eq-eqb}
+use borrow.Author.Tests.{leb-true, eqb-true, eqb-false, le-leb, lt-leb, eq-eqb}
 use lib.Dec.{eqb, leb}
 use lib.IntN.{ℤ}
 use lib.ListN.{length}
 use Rattle.checks.specs.Answers.{Check, refused, fine}
 use Rattle.checks.proofs.AnswerLaws.{never-fine}
+use Rattle.checks.proofs.Tables.{at-most-or-above}
 use Rattle.listing.specs.Rules.{startWithin, listLength, roomFor}
-
--- A number is at most another, or above it.
-pub at-most-or-above : (x y : ℕ) → (x ≤ y) ⊎ (y < x)
-at-most-or-above x y = by-test (leb x y) refl
-  where
-    by-test : (t : Bool) → leb x y ≡ t → (x ≤ y) ⊎ (y < x)
-    by-test true e = inl (leb-true x y e)
-    by-test false e = inr (leb-false x y e)
 
 -- ---- the start
 module _ (start room : ℕ) where

@@ -1,7 +1,7 @@
 -- Each reason of a listing is given exactly in the case that document 01's table states, with the side and the place stated there.
 -- `ListCase` is the table and `list-exactly` the theorem; between them is its proof. No case has the number 2, which a listing never gives
 -- (`list-two-never`). The words are those of Order and of ListChecks. Assumes nothing.
-use mathlib.Core.Path.{_≡_, refl, sym, ap, _∙_, subst₃}
+use mathlib.Core.Path.{_≡_, refl, ap, _∙_}
 use mathlib.Core.List.{List}
 use mathlib.Core.Logic.{_↔_, _⊎_, inl, inr}
 use Prim.Native.Nat.{ℕ, _+_, _-_, _*_, _<_, _≤_}
@@ -12,15 +12,12 @@ use Rattle.checks.specs.Answers.{Answer, served, refused, Check, fine, _then_, 
 use Rattle.checks.specs.Rules.{allOnGrid}
 use Rattle.checks.proofs.GridLaws.{Lowest}
 use Rattle.checks.proofs.CheckLaws.{OnGrid, GridCase, all, not-all, grid-case, on-fine, off-refused}
+use Rattle.checks.proofs.Tables.{Gives, gives-as, SomeCase, exactly, at-most-or-above}
 use Rattle.boxes.specs.Triangles.{triangles}
 use Rattle.listing.specs.Pairs.{Pair, pairsOf}
 use Rattle.listing.specs.Rules.{listLength, inputChecks, roomFor, outcome, ListRule}
 use Rattle.listing.proofs.Order.{MeetingPairs, meeting-fixed, verdicts-list}
-use Rattle.listing.proofs.ListChecks.{at-most-or-above, within-fine, beyond-refused, room-fine, no-room-refused, RightLength, right-length-or-not, right-length-fine, wrong-length-refused}
-
--- An answer gives this number, side and place.
-abbrev pub Gives : {A : Type 0} → Answer A → (number side place : ℕ) → Type 0
-Gives answer number side place = (numberOf answer ≡ number) × (sideOf answer ≡ side) × (placeOf answer ≡ place)
+use Rattle.listing.proofs.ListChecks.{within-fine, beyond-refused, room-fine, no-room-refused, RightLength, right-length-or-not, right-length-fine, wrong-length-refused}
 
 -- Of a listing of the lists a and b, into a buffer from a start on.
 module _ (a b : List ℤ) (buffer : List ℕ) (start : ℕ) where
@@ -86,9 +83,7 @@ module _ (a b : List ℤ) (buffer : List ℕ) (start : ℕ) where
     -- ---- from the case to the answer
     gives : (found : Answer (List Pair)) → outcome (rule .meets) a b buffer start ≡ found →
         Gives answer (numberOf (withServed length found)) (sideOf (withServed length found)) (placeOf (withServed length found))
-    gives found e =
-        let told = rule .told ∙ ap (withServed length) e in
-        (ap numberOf told, ap sideOf told, ap placeOf told)
+    gives found e = gives-as (rule .told ∙ ap (withServed length) e)
 
     gives-check : {number side place : ℕ} → checks ≡ refused number side place → Gives answer number side place
     gives-check {number} {side} {place} e = gives (refused number side place) (ap (λ (c : Check). c then room then served pairs) e)
@@ -125,29 +120,23 @@ module _ (a b : List ℤ) (buffer : List ℕ) (start : ℕ) where
         gives (served pairs) (λ i. c i then d i then served pairs)
 
     -- ---- some case holds
-    record SomeCase : Type 0 where
-      number : ℕ
-      side : ℕ
-      place : ℕ
-      found : ListCase number side place
-
-    some-case : SomeCase
+    some-case : SomeCase ListCase
     some-case = by-start (at-most-or-above start (length buffer)) (right-length-or-not a) (right-length-or-not b)
       where
-        by-room : FineInput → SomeCase
+        by-room : FineInput → SomeCase ListCase
         by-room h = decide (at-most-or-above (start + 2 * length pairs) (length buffer))
           where
-            decide : (start + 2 * length pairs ≤ length buffer) ⊎ (length buffer < start + 2 * length pairs) → SomeCase
+            decide : (start + 2 * length pairs ≤ length buffer) ⊎ (length buffer < start + 2 * length pairs) → SomeCase ListCase
             decide (inl enough) = record { number = 0; side = 0; place = 0; found = none pairs h (meeting h) enough }
             decide (inr few) = record { number = 5; side = 0; place = length pairs; found = no-room pairs h (meeting h) few }
 
-        by-numbers : RightLengths → GridCase 0 a → GridCase 1 b → SomeCase
+        by-numbers : RightLengths → GridCase 0 a → GridCase 1 b → SomeCase ListCase
         by-numbers h (not-all low e) g = record { number = 1; side = 0; place = _; found = first-off _ h low }
         by-numbers h (all on e) (not-all low g) = record { number = 1; side = 1; place = _; found = second-off _ h on low }
         by-numbers h (all on e) (all on′ g) = by-room (record { lengths = h; first = on; second = on′ })
 
         by-start : (start ≤ length buffer) ⊎ (length buffer < start) →
-            RightLength a ⊎ (RightLength a → ⊥) → RightLength b ⊎ (RightLength b → ⊥) → SomeCase
+            RightLength a ⊎ (RightLength a → ⊥) → RightLength b ⊎ (RightLength b → ⊥) → SomeCase ListCase
         by-start (inr h) f g = record { number = 4; side = 0; place = length buffer; found = start-beyond h }
         by-start (inl h) (inr wrong) g = record { number = 3; side = 0; place = length a; found = first-length h wrong }
         by-start (inl h) (inl right) (inr wrong) = record { number = 3; side = 1; place = length b; found = second-length h right wrong }
@@ -157,13 +146,7 @@ module _ (a b : List ℤ) (buffer : List ℕ) (start : ℕ) where
     -- ---- the answer
     -- An answer that meets the contract of a listing gives a number, a side and a place exactly in their case.
     pub list-exactly : (number side place : ℕ) → ListCase number side place ↔ Gives answer number side place
-    list-exactly number side place = (from-case number side place, to-case)
-      where
-        to-case : Gives answer number side place → ListCase number side place
-        to-case e =
-            let s = some-case in
-            let given = from-case (s .number) (s .side) (s .place) (s .found) in
-            subst₃ ListCase (sym (given .0) ∙ e .0) (sym (given .1) ∙ e .1) (sym (given .2) ∙ e .2) (s .found)
+    list-exactly number side place = exactly answer ListCase from-case some-case
 
     -- It never gives 2.
     pub list-two-never : numberOf answer ≡ 2 → ⊥

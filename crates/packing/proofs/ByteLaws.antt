@@ -12,7 +12,7 @@ use lib.Seq.{drop-cons, drop-drop}
 use mir.Syntax.{w32}
 use mir.Val.{SFits, sel, toZ, ofZ}
 use mir.Facts.{toZ-pos}
-use Rattle.algebra.proofs.Machine.{returned}
+use Rattle.algebra.proofs.Machine.{returned, from-minus-one}
 use Rattle.packing.specs.Reading.{lowFirst, signedOf, numberIn, numbersIn}
 use Rattle.packing.specs.Writing.{bitsOf}
 
@@ -57,10 +57,6 @@ written-bits (pos n) = refl
 written-bits (negsuc m) = let e : 4294967296 - suc m ≡ 4294967295 - m = omega arith in e
 
 -- ---- from 2^31 on: the bits that are left to 2^32 - 1, taken from -1
-from-minus-one : (m : ℕ) → negsuc 0 -ℤ pos m ≡ negsuc m
-from-minus-one zero = refl
-from-minus-one (suc k) = ap negsuc {x = suc (0 + k)} {y = suc k} (omega arith)
-
 module _ (n : ℕ) (high : 2147483648 ≤ n) (fits : n < 4294967296) where
   value : negsuc 0 -ℤ toZ w32 (4294967295 - n) ≡ negsuc (4294967295 - n)
   value = ap (λ (z : ℤ). negsuc 0 -ℤ z) (toZ-pos w32 {n = 4294967295 - n} (omega arith)) ∙ from-minus-one (4294967295 - n)

@@ -1,14 +1,14 @@
 -- Each reason of a plate's call is given exactly in the case that documents 01 and 02 state, with the side and the place stated there: the
 -- changes, undo and the parts call, and each of them on any plate that stands for the history of some calls. `ChangeCase`, `UndoCase` and
 -- `PartsCase` are the table, `plate-exactly` and `plate-parts-exactly` at the end the theorems; between them is their proof. Assumes nothing.
-use mathlib.Core.Path.{_≡_, refl, sym, ap, subst₃, _∙_}
+use mathlib.Core.Path.{_≡_, refl, sym, ap, _∙_}
 use mathlib.Core.Bool.{Bool, true, false, not, cond, true≢false}
 use mathlib.Core.List.{List, [], _∷_}
 use mathlib.Core.Logic.{_↔_, _⊎_, inl, inr}
 use Prim.Native.Nat.{ℕ, zero, suc, _<_, _≤_}
 use native.Mathlib.Omega.{arith}
-use borrow.Author.Tests.{eqb-true, eqb-false, eq-eqb, ne-eqb, leb-true, leb-false, ltb-true, ltb-false, lt-ltb, le-ltb, not-true, not-false}
-use lib.Dec.{eqb, leb, ltb}
+use borrow.Author.Tests.{eqb-true, eqb-false, eq-eqb, ne-eqb, ltb-true, ltb-false, lt-ltb, le-ltb, not-true, not-false}
+use lib.Dec.{eqb, ltb}
 use lib.IntN.{ℤ}
 use lib.ListN.{length, getD, List·getD-eq-default}
 use Rattle.shape.specs.Points.{moved}
@@ -21,8 +21,9 @@ use Rattle.checks.specs.Answers.{Answer, served, refused, Check, fine, _then_, 
 use Rattle.checks.specs.Grid.{lowestOff, allOn}
 use Rattle.checks.specs.Rules.{rightLength, notFlat, refuses-flat, shapeChecks}
 use Rattle.checks.specs.Told.{toldCheck}
-use Rattle.checks.proofs.GridLaws.{SomeOff, Lowest, all-on, none-off, one-off, lowest as lowest-off, lowest-some}
-use Rattle.checks.proofs.CheckLaws.{LengthCase, right, wrong, length-case, GridCase, all, not-all, grid-case, OnGrid, FlatCase, flat, not-flat, flat-case, long-fine, not-long-refused, on-fine, off-refused, not-flat-fine, flat-refused}
+use Rattle.checks.proofs.GridLaws.{SomeOff, Lowest, one-off, lowest as lowest-off, lowest-some}
+use Rattle.checks.proofs.CheckLaws.{LengthCase, right, wrong, length-case, GridCase, all, not-all, grid-case, OnGrid, all-on-grid, FlatCase, flat, not-flat, flat-case, long-fine, not-long-refused, on-fine, off-refused, not-flat-fine, flat-refused}
+use Rattle.checks.proofs.Tables.{Gives, gives-as, then-gives, SomeCase, exactly, also-exactly, at-most-or-above}
 use Rattle.slots.specs.Slots.{Slot, free, held, triangle, isOf}
 use Rattle.slots.specs.Parts.{SkinsMeet, trianglesOf}
 use Rattle.slots.specs.Changes.{Change, place, lift, shift, thrice}
@@ -38,10 +39,6 @@ use Rattle.plate.specs.declared.calls.PlateAnswer.{PlateAnswer}
 use Rattle.reasons.proofs.Placing.{placing, place-order}
 use Rattle.reasons.proofs.Orders.{place-8, place-fine, lift-6, lift-9, lift-fine, shift-7, shift-10, shift-11, shift-fine}
 use Rattle.plate.proofs.Demand.{undo-refused}
-
--- An answer gives this number, side and place.
-abbrev pub Gives : {A : Type 0} → Answer A → (number side spot : ℕ) → Type 0
-Gives answer number side spot = (numberOf answer ≡ number) × (sideOf answer ≡ side) × (placeOf answer ≡ spot)
 
 -- ---- words of the table
 -- Slot s is empty. (So is every slot past the last.)
@@ -145,36 +142,6 @@ pub data PartsCase (S : List Slot) (p q : ℕ) : (number side spot : ℕ) → Ty
   -- Served: both are there, and they are one part, or their skins meet, or both shells are closed.
   parts-served : p ≤ 15 → q ≤ 15 → HasPart S p → HasPart S q → (p ≡ q) ⊎ (SkinsMeet S p q ⊎ (Closed S p × Closed S q)) → PartsCase S p q 0 0 0
 
--- ---- cases and answers
--- The same answer gives the same.
-gives-as : {A : Type 0} {a b : Answer A} → a ≡ b → Gives a (numberOf b) (sideOf b) (placeOf b)
-gives-as e = (ap numberOf e, ap sideOf e, ap placeOf e)
-
--- Some case holds.
-record SomeCase (Case : (number side spot : ℕ) → Type 0) : Type 0 where
-  number : ℕ
-  side : ℕ
-  spot : ℕ
-  found : Case number side spot
-
--- Where every case fixes what the answer gives, and some case holds, the answer gives a number, a side and a place exactly in their case.
-exactly : {A : Type 0} (answer : Answer A) (Case : (number side spot : ℕ) → Type 0) →
-    ((number side spot : ℕ) → Case number side spot → Gives answer number side spot) → SomeCase Case →
-    {number side spot : ℕ} → Case number side spot ↔ Gives answer number side spot
-exactly answer Case from s {number} {side} {spot} = (from number side spot, to)
-  where
-    to : Gives answer number side spot → Case number side spot
-    to e =
-        let given = from (s .number) (s .side) (s .spot) (s .found) in
-        subst₃ Case (sym (given .0) ∙ e .0) (sym (given .1) ∙ e .1) (sym (given .2) ∙ e .2) (s .found)
-
-at-most-or-above : (x y : ℕ) → (x ≤ y) ⊎ (y < x)
-at-most-or-above x y = by-test (leb x y) refl
-  where
-    by-test : (t : Bool) → leb x y ≡ t → (x ≤ y) ⊎ (y < x)
-    by-test true e = inl (leb-true x y e)
-    by-test false e = inr (leb-false x y e)
-
 -- ---- slots
 module _ (S : List Slot) (s : ℕ) where
   empty-or-filled : Empty S s ⊎ Filled S s
@@ -232,9 +199,6 @@ module _ (q : ℕ) where
         by-test false e = inr (λ s numbers h. true≢false (sym (has-some (record { slot = s; numbers = numbers; holds = h })) ∙ e))
 
 -- ---- the grid: the test in the rules, and its words
-all-on-grid : (l : List ℤ) → allOn l ≡ true → OnGrid l
-all-on-grid l e = all-on l (ltb-false (lowestOff l) (length l) (none-off l e))
-
 off-not-all : (l : List ℤ) → SomeOff l → allOn l ≡ false
 off-not-all l off = by-test (allOn l) refl
   where
@@ -392,29 +356,29 @@ module _ (S : List Slot) where
     where
       by-slot : s ≤ 63 → q ≤ 15 → length numbers ≡ 9 → OnGrid numbers → (Flat 3 (triangle numbers) → ⊥) → Empty S s ⊎ Filled S s →
           SomeCase (ChangeCase S (place s q numbers))
-      by-slot a b long on h (inl e) = record { number = 0; side = 0; spot = 0; found = place-served s q numbers a b long on h e }
-      by-slot a b long on h (inr f) = record { number = 8; side = 0; spot = s; found = place-filled s q numbers a b long on h f }
+      by-slot a b long on h (inl e) = record { number = 0; side = 0; place = 0; found = place-served s q numbers a b long on h e }
+      by-slot a b long on h (inr f) = record { number = 8; side = 0; place = s; found = place-filled s q numbers a b long on h f }
 
       by-shape : s ≤ 63 → q ≤ 15 → length numbers ≡ 9 → GridCase 0 numbers → FlatCase refuses-flat 3 0 (triangle numbers) →
           SomeCase (ChangeCase S (place s q numbers))
       by-shape a b long (not-all low e) g =
-          record { number = 1; side = 0; spot = lowestOff numbers; found = place-off s q numbers (lowestOff numbers) a b long low }
-      by-shape a b long (all on e) (flat h g) = record { number = 2; side = 0; spot = 0; found = place-flat s q numbers a b long on h }
+          record { number = 1; side = 0; place = lowestOff numbers; found = place-off s q numbers (lowestOff numbers) a b long low }
+      by-shape a b long (all on e) (flat h g) = record { number = 2; side = 0; place = 0; found = place-flat s q numbers a b long on h }
       by-shape a b long (all on e) (not-flat h g) = by-slot a b long on h (empty-or-filled S s)
 
       by-numbers : (s ≤ 63) ⊎ (63 < s) → (q ≤ 15) ⊎ (15 < q) → LengthCase 0 9 numbers → SomeCase (ChangeCase S (place s q numbers))
-      by-numbers (inr a) b l = record { number = 6; side = 0; spot = s; found = place-slot s q numbers a }
-      by-numbers (inl a) (inr b) l = record { number = 7; side = 0; spot = q; found = place-part s q numbers a b }
-      by-numbers (inl a) (inl b) (wrong h e) = record { number = 3; side = 0; spot = length numbers; found = place-length s q numbers a b h }
+      by-numbers (inr a) b l = record { number = 6; side = 0; place = s; found = place-slot s q numbers a }
+      by-numbers (inl a) (inr b) l = record { number = 7; side = 0; place = q; found = place-part s q numbers a b }
+      by-numbers (inl a) (inl b) (wrong h e) = record { number = 3; side = 0; place = length numbers; found = place-length s q numbers a b h }
       by-numbers (inl a) (inl b) (right long e) = by-shape a b long (grid-case 0 numbers) (flat-case refuses-flat 3 0 (triangle numbers))
 
   some-lift : (s : ℕ) → SomeCase (ChangeCase S (lift s))
   some-lift s = decide (at-most-or-above s 63) (empty-or-filled S s)
     where
       decide : (s ≤ 63) ⊎ (63 < s) → Empty S s ⊎ Filled S s → SomeCase (ChangeCase S (lift s))
-      decide (inr a) f = record { number = 6; side = 0; spot = s; found = lift-slot s a }
-      decide (inl a) (inl e) = record { number = 9; side = 0; spot = s; found = lift-empty s a e }
-      decide (inl a) (inr f) = record { number = 0; side = 0; spot = 0; found = lift-served s a f }
+      decide (inr a) f = record { number = 6; side = 0; place = s; found = lift-slot s a }
+      decide (inl a) (inl e) = record { number = 9; side = 0; place = s; found = lift-empty s a e }
+      decide (inl a) (inr f) = record { number = 0; side = 0; place = 0; found = lift-served s a f }
 
   some-shift : (q : ℕ) (dx dy dz : ℤ) → SomeCase (ChangeCase S (shift q dx dy dz))
   some-shift q dx dy dz = decide (at-most-or-above q 15) (has-or-none q S) (leaving-or-stays S q (thrice dx dy dz))
@@ -422,12 +386,12 @@ module _ (S : List Slot) where
       decide : (q ≤ 15) ⊎ (15 < q) → HasPart S q ⊎ NoPart S q →
           LowestLeaving S q (thrice dx dy dz) (lowest (leaves q (thrice dx dy dz)) S) ⊎ Stays S q (thrice dx dy dz) →
           SomeCase (ChangeCase S (shift q dx dy dz))
-      decide (inr a) h g = record { number = 7; side = 0; spot = q; found = shift-part q dx dy dz a }
-      decide (inl a) (inr none) g = record { number = 10; side = 0; spot = q; found = shift-none q dx dy dz a none }
+      decide (inr a) h g = record { number = 7; side = 0; place = q; found = shift-part q dx dy dz a }
+      decide (inl a) (inr none) g = record { number = 10; side = 0; place = q; found = shift-none q dx dy dz a none }
       decide (inl a) (inl h) (inl off) =
           let i = lowest (leaves q (thrice dx dy dz)) S in
-          record { number = 11; side = 0; spot = i; found = shift-off q dx dy dz i a off }
-      decide (inl a) (inl h) (inr stays) = record { number = 0; side = 0; spot = 0; found = shift-served q dx dy dz a h stays }
+          record { number = 11; side = 0; place = i; found = shift-off q dx dy dz i a off }
+      decide (inl a) (inl h) (inr stays) = record { number = 0; side = 0; place = 0; found = shift-served q dx dy dz a h stays }
 
   some-change : (c : Change) → SomeCase (ChangeCase S c)
   some-change (place s q numbers) = some-place s q numbers
@@ -491,24 +455,24 @@ module _ (S : List Slot) (p q : ℕ) {answer : Answer Bool} (rule : PartsRule S 
       closing : {v w : Bool} → Says v (Closed S p) → Says w (Closed S q) → p ≤ 15 → q ≤ 15 → HasPart S p → HasPart S q →
           (p ≡ q → ⊥) → (SkinsMeet S p q → ⊥) → SomeCase (PartsCase S p q)
       closing {v = false} s t a b h g other apart =
-          record { number = 16; side = 0; spot = p; found = first-open a b h g other apart (s .no refl) }
+          record { number = 16; side = 0; place = p; found = first-open a b h g other apart (s .no refl) }
       closing {v = true} {w = false} s t a b h g other apart =
-          record { number = 16; side = 1; spot = q; found = second-open a b h g other apart (s .yes refl) (t .no refl) }
+          record { number = 16; side = 1; place = q; found = second-open a b h g other apart (s .yes refl) (t .no refl) }
       closing {v = true} {w = true} s t a b h g other apart =
-          record { number = 0; side = 0; spot = 0; found = parts-served a b h g (inr (inr (s .yes refl, t .yes refl))) }
+          record { number = 0; side = 0; place = 0; found = parts-served a b h g (inr (inr (s .yes refl, t .yes refl))) }
 
       skins : (same v : Bool) → eqb p q ≡ same → rule .skins ≡ v → p ≤ 15 → q ≤ 15 → HasPart S p → HasPart S q → SomeCase (PartsCase S p q)
-      skins true v e f a b h g = record { number = 0; side = 0; spot = 0; found = parts-served a b h g (inl (eqb-true p q e)) }
+      skins true v e f a b h g = record { number = 0; side = 0; place = 0; found = parts-served a b h g (inl (eqb-true p q e)) }
       skins false true e f a b h g =
-          record { number = 0; side = 0; spot = 0; found = parts-served a b h g (inr (inl (rule .skins-right .yes f))) }
+          record { number = 0; side = 0; place = 0; found = parts-served a b h g (inr (inl (rule .skins-right .yes f))) }
       skins false false e f a b h g =
           closing (closed-says (trianglesOf p S)) (closed-says (trianglesOf q S)) a b h g (eqb-false p q e) (rule .skins-right .no f)
 
       decide : (p ≤ 15) ⊎ (15 < p) → (q ≤ 15) ⊎ (15 < q) → HasPart S p ⊎ NoPart S p → HasPart S q ⊎ NoPart S q → SomeCase (PartsCase S p q)
-      decide (inr a) b h g = record { number = 7; side = 0; spot = p; found = first-above a }
-      decide (inl a) (inr b) h g = record { number = 7; side = 1; spot = q; found = second-above a b }
-      decide (inl a) (inl b) (inr none) g = record { number = 10; side = 0; spot = p; found = first-none a b none }
-      decide (inl a) (inl b) (inl h) (inr none) = record { number = 10; side = 1; spot = q; found = second-none a b h none }
+      decide (inr a) b h g = record { number = 7; side = 0; place = p; found = first-above a }
+      decide (inl a) (inr b) h g = record { number = 7; side = 1; place = q; found = second-above a b }
+      decide (inl a) (inl b) (inr none) g = record { number = 10; side = 0; place = p; found = first-none a b none }
+      decide (inl a) (inl b) (inl h) (inr none) = record { number = 10; side = 1; place = q; found = second-none a b h none }
       decide (inl a) (inl b) (inl h) (inl g) = skins (eqb p q) (rule .skins) refl refl a b h g
 
   -- The parts call gives a number, a side and a place exactly in their case.
@@ -530,8 +494,8 @@ module _ (h : History) where
   some-undo = decide (at-most-or-above (h .reach) 0)
     where
       decide : (h .reach ≤ 0) ⊎ (0 < h .reach) → SomeCase (UndoCase h)
-      decide (inl e) = record { number = 12; side = 0; spot = 0; found = undo-none (omega arith) }
-      decide (inr a) = record { number = 0; side = 0; spot = 0; found = undo-served a }
+      decide (inl e) = record { number = 12; side = 0; place = 0; found = undo-none (omega arith) }
+      decide (inr a) = record { number = 0; side = 0; place = 0; found = undo-served a }
 
   -- An undo gives a number, a side and a place exactly in their case.
   pub undo-exactly : {number side spot : ℕ} → UndoCase h number side spot ↔ Gives (outcome h undo) number side spot
@@ -542,22 +506,6 @@ module _ (h : History) where
 abbrev pub CallCase : History → Call → (number side spot : ℕ) → Type 0
 CallCase h (change c) = ChangeCase (slotsOf h) c
 CallCase h undo = UndoCase h
-
--- What one answer gives exactly in its case, another that gives the same does too.
-module _ {A B : Type 0} (a : Answer A) (b : Answer B) (same : Gives a (numberOf b) (sideOf b) (placeOf b)) where
-  also-exactly : {Case : Type 0} {number side spot : ℕ} → Case ↔ Gives b number side spot → Case ↔ Gives a number side spot
-  also-exactly {Case} {number} {side} {spot} e = (to, from)
-    where
-      to : Case → Gives a number side spot
-      to c = let g = e .0 c in (same .0 ∙ g .0, same .1 ∙ g .1, same .2 ∙ g .2)
-
-      from : Gives a number side spot → Case
-      from g = e .1 (sym (same .0) ∙ g .0, sym (same .1) ∙ g .1, sym (same .2) ∙ g .2)
-
--- An answer gives what the checks before it give.
-then-gives : {A : Type 0} (c : Check) (v : A) → Gives (c then served v) (numberOf c) (sideOf c) (placeOf c)
-then-gives (served u) v = (refl, refl, refl)
-then-gives (refused number side spot) v = (refl, refl, refl)
 
 -- What a call on a history gives.
 pub outcome-exactly : (h : History) (c : Call) {number side spot : ℕ} → CallCase h c number side spot ↔ Gives (outcome h c) number side spot

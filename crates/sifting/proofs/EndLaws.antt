@@ -3,7 +3,7 @@
 use mathlib.Core.Path.{_≡_, refl, sym, ap, subst, subst₂, _∙_}
 use mathlib.Core.Bool.{Bool, true, false, cond}
 use mathlib.Core.List.{List}
-use Prim.Native.Nat.{ℕ, zero, suc, _+_, _-_, _*_, _^_, _<_, _≤_}
+use Prim.Native.Nat.{ℕ, zero, suc, _+_, _*_, _^_, _<_}
 use native.Mathlib.Omega.{arith}
 use lib.IntN.{ℤ, pos, negsuc, predℤ, negℤ, _-ℤ_, predℤ-+ℤ, +ℤ-idl}
 use lib.ListN.{getD, drop}
@@ -11,11 +11,12 @@ use lib.Seq.{getD-take, getD-drop}
 use lib.Signed.{ltZ, mag, _≤ℤ_, clashℤ}
 use mir.Syntax.{w32}
 use mir.Val.{toZ, ofZ, hbits}
+use Rattle.algebra.proofs.Order.{lt-true, lt-false}
 use Rattle.shape.specs.Points.{pointsAt}
 use Rattle.shape.specs.Sharing.{Share}
 use Rattle.shape.proofs.Trading.{share-trade}
 use Rattle.boxes.specs.Boxes.{smaller, larger, bestAt, boxOf, apartAlong, boxesApart, six}
-use Rattle.boxes.proofs.BoxLaws.{read, lt-true, lt-false, apart-at}
+use Rattle.boxes.proofs.BoxLaws.{read, apart-at}
 use Rattle.sifting.specs.Ends.{mirror, Reaches}
 
 -- ---- numbers mirrored

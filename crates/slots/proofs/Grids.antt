@@ -4,16 +4,13 @@ use mathlib.Core.Bool.{Bool, true, false, cond}
 use mathlib.Core.List.{List, [], _∷_, _++_}
 use Prim.Native.Nat.{ℕ, zero, suc, _+_, _-_, _*_, _<_}
 use native.Mathlib.Omega.{arith}
-use borrow.Author.Tests.{le-leb, ltb-false}
 use borrow.Rule.Slice.PartMut.{putMid}
-use lib.IntN.{ℤ, pos, natAbs}
+use lib.IntN.{ℤ, pos}
 use lib.ListN.{getD, length, take, drop, replicate, length-replicate}
 use Rattle.algebra.proofs.Parts.{length-lent}
-use Rattle.shape.proofs.VerdictLaws.{says-yes, says-fixed}
-use Rattle.exact.specs.Grid.{limit, Ready}
-use Rattle.checks.specs.Grid.{lowestOff, allOn}
-use Rattle.checks.proofs.GridLaws.{all-on, all-on-says, none-off}
-use Rattle.checks.proofs.CheckLaws.{OnGrid, on-take, on-drop}
+use Rattle.exact.specs.Grid.{Ready}
+use Rattle.checks.specs.Grid.{allOn}
+use Rattle.checks.proofs.CheckLaws.{OnGrid, on-take, on-drop, on-all, all-on-grid}
 use Rattle.slots.specs.Slots.{Slot, free}
 use Rattle.slots.specs.Arrays.{numbersOf, flat}
 use Rattle.slots.specs.Showing.{FitSlot, Shown}
@@ -42,16 +39,9 @@ unfolding flat
 on-slots [] f k = omega arith
 on-slots (x ∷ S) f k = on-append (numbersOf x) (flat S) (f 0 .each) (on-slots S (λ i. f (suc i))) k
 
--- Both ways from the test that code makes of all numbers.
-pub on-tested : (l : List ℤ) → OnGrid l → allOn l ≡ true
-on-tested l h = says-fixed (all-on-says l) (says-yes (λ k i. le-leb (natAbs (getD l k (pos 0))) limit (h k)))
-
-pub tested-on : (l : List ℤ) → allOn l ≡ true → OnGrid l
-tested-on l on = all-on l (ltb-false (lowestOff l) (length l) (none-off l on))
-
 -- Arrays that show slots have their coordinates on the grid.
 shown-on : {S : List Slot} {coords : List ℤ} {parts : List ℕ} → Shown S coords parts → allOn coords ≡ true
-shown-on {S} h = ap allOn (h .coords-are) ∙ on-tested (flat S) (on-slots S (h .fit .each))
+shown-on {S} h = ap allOn (h .coords-are) ∙ on-all (flat S) (on-slots S (h .fit .each))
 
 pub never-off : {S : List Slot} {coords : List ℤ} {parts : List ℕ} → Shown S coords parts → allOn coords ≡ false → ⊥
 never-off h e = omega (arith, ap {B = ℕ} (λ (b : Bool). cond b 1 0) (sym (shown-on h) ∙ e))
@@ -60,7 +50,7 @@ never-off h e = omega (arith, ap {B = ℕ} (λ (b : Bool). cond b 1 0) (sym (sho
 pub nine-ready : (i : ℕ) (coords : List ℤ) → i < 64 → length coords ≡ 576 → allOn coords ≡ true → Ready 9 (take (9 * i + 9 - 9 * i) (drop (9 * i) coords))
 nine-ready i coords h long on = record {
   long = length-lent (9 * i) 9 coords (omega arith);
-  each = on-take (9 * i + 9 - 9 * i) (drop (9 * i) coords) (on-drop (9 * i) coords (tested-on coords on));
+  each = on-take (9 * i + 9 - 9 * i) (drop (9 * i) coords) (on-drop (9 * i) coords (all-on-grid coords on));
 }
 
 -- Nine numbers on the grid, put in the place of nine others of a list that is.

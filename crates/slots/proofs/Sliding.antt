@@ -12,6 +12,7 @@ use Rattle.shape.specs.Points.{coord, moved, movedAll}
 use Rattle.shape.proofs.Trading.{coord-moved}
 use Rattle.exact.specs.Grid.{Ready}
 use Rattle.checks.specs.Grid.{allOn}
+use Rattle.checks.proofs.CheckLaws.{all-on-grid}
 use Rattle.moving.specs.Moves.{steps}
 use Rattle.moving.proofs.MoveLaws.{length-moved, moved-back}
 use Rattle.slots.specs.Slots.{Slot, free, held, triangle}
@@ -21,7 +22,6 @@ use Rattle.slots.specs.Leaving.{leaves}
 use Rattle.slots.specs.Arrays.{numbersOf, markOf}
 use Rattle.slots.specs.Showing.{FitSlot, Fit}
 use Rattle.shape.proofs.ListLaws.{below-lowest}
-use Rattle.slots.proofs.Grids.{tested-on}
 
 -- ---- one triangle
 -- Where its nine numbers move by the steps, its corners move by the vector.
@@ -38,7 +38,7 @@ moved-ready : (dx dy dz : ℤ) (numbers : List ℤ) → length numbers ≡ 9 →
     Ready 9 (moved (thrice dx dy dz) numbers)
 moved-ready dx dy dz numbers long on = record {
   long = length-moved (thrice dx dy dz) numbers (omega arith) ∙ long;
-  each = tested-on (moved (thrice dx dy dz) numbers) on;
+  each = all-on-grid (moved (thrice dx dy dz) numbers) on;
 }
 
 -- ---- one slot

@@ -1,9 +1,8 @@
 -- What estimates tell of the signs of a triangle's corners, all at once (specs/Spaces.antt). Assumes nothing.
 use mathlib.Core.Path.{_≡_, refl, sym, ap, subst, _∙_}
-use mathlib.Core.Bool.{Bool, true, false, not, _&&_, _||_, cond}
+use mathlib.Core.Bool.{Bool, true, false, _&&_, _||_, cond}
 use Prim.Native.Nat.{ℕ, _+_, _-_, _*_, _≤_, _<_}
 use native.Mathlib.Omega.{arith}
-use borrow.Author.Tests.{eq-eqb, ne-eqb}
 use lib.Dec.{eqb}
 use lib.Ieee.{Float}
 use mir.Val.{boolByte}
@@ -11,30 +10,18 @@ use Rattle.shape.specs.Points.{Point}
 use Rattle.shape.specs.SpaceTest.{level, isAbove}
 use Rattle.estimates.specs.Doubles.{farAbove, farBelow}
 use Rattle.estimates.proofs.Told.{Told}
+use Rattle.exact.proofs.Branches.{bit≤, both-true}
 use Rattle.exact.proofs.LevelLaws.{far-above, far-below}
 use Rattle.space.specs.Spaces.{sure, sureLevel, Guesses, Crosses, Stands}
 
 -- ---- flags
-pub flag-small : (b : Bool) → boolByte b ≤ 1
-flag-small true = omega arith
-flag-small false = omega arith
-
 none-doubted : (b : Bool) → 1 - boolByte b ≡ 0 → b ≡ true
 none-doubted true e = refl
 none-doubted false e = absurd (omega arith)
 
-pub both-set : (a b : Bool) → a && b ≡ true → (a ≡ true) × (b ≡ true)
-both-set true b e = (refl, e)
-both-set false b e = absurd (no e)
-  where
-    no : _≡_ {A = Bool} false true → ⊥
-    no e =
-        let same : _≡_ {A = ℕ} 0 1 = cc in
-        omega arith
-
 -- ---- one estimate
 pub level-small : (e : Float) → sureLevel e ≤ 2
-level-small e = omega (arith, flag-small (farAbove e))
+level-small e = omega (arith, bit≤ (farAbove e))
 
 -- A sure one tells the level.
 pub sure-told : {e : Float} {a b c d : Point} → Told e a b c d → sure e ≡ true → sureLevel e ≡ level a b c d
@@ -60,8 +47,8 @@ guessed {x} {y} {z} {a} {b} {c} {p} {q} {r} tx ty tz = record {
         9 * sureLevel x + 3 * sureLevel y + sureLevel z ≡ 9 * level a b c p + 3 * level a b c q + level a b c r
     right e =
         let all = none-doubted (sure x && sure y && sure z) e in
-        let two = both-set (sure x && sure y) (sure z) all in
-        let one = both-set (sure x) (sure y) (two .0) in
+        let two = both-true (sure x && sure y) (sure z) all in
+        let one = both-true (sure x) (sure y) (two .0) in
         λ i. 9 * sure-told tx (one .0) i + 3 * sure-told ty (one .1) i + sure-told tz (two .1) i
 
 -- The standing that a guess names, and 16 more where it is in doubt.
@@ -89,8 +76,8 @@ one-side {e} told above = by-side (farBelow e) refl
 pub signs-told : {x y : Float} {a b c p d e f q : Point} → Told x a b c p → Told y d e f q →
     Crosses (cond (isAbove a b c p) false (cond (isAbove d e f q) false true)) (boolByte (farBelow x && farBelow y) + 2 * (1 - boolByte (sure x && sure y)))
 signs-told {x} {y} {a} {b} {c} {p} {d} {e} {f} {q} tx ty few =
-    let all = none-doubted (sure x && sure y) (omega (arith, flag-small (sure x && sure y))) in
-    let each = both-set (sure x) (sure y) all in
+    let all = none-doubted (sure x && sure y) (omega (arith, bit≤ (sure x && sure y))) in
+    let each = both-true (sure x) (sure y) all in
     sym (λ i. cond (eqb (sure-told tx (each .0) i) 2) false (cond (eqb (sure-told ty (each .1) i) 2) false true))
     ∙ by-sides (farAbove x) (farBelow x) (farAbove y) (farBelow y) (each .0) (each .1) (one-side tx) (one-side ty)
   where

@@ -14,10 +14,11 @@ use Rattle.shape.specs.SpaceTest.{level, isAbove, pastNoEdge}
 use Rattle.shape.proofs.SignLaws.{neighbours-trade}
 use Rattle.estimates.specs.Doubles.{farAbove, farBelow}
 use Rattle.estimates.proofs.Told.{Told}
+use Rattle.exact.proofs.Branches.{bit≤, both-true}
 use Rattle.exact.proofs.LevelLaws.{far-above, far-below}
 use Rattle.space.specs.Spaces.{SpaceAt, ofSpace, sure, endsOver}
 use Rattle.space.specs.declared.meeting.SpaceTriangle.{SpaceTriangle}
-use Rattle.space.proofs.Guesses.{flag-small, both-set, sure-told}
+use Rattle.space.proofs.Guesses.{sure-told}
 
 -- A function of a segment's ends and a triangle's corners that were read.
 pub segment-at : {p q p′ q′ a b c : Point} {t : SpaceTriangle} → p′ ≡ p → q′ ≡ q → SpaceAt a b c t → {X : Type 0} (f : (p q a b c : Point) → X) →
@@ -29,10 +30,10 @@ segment-at p q t f = λ i. f (p i) (q i) (t .at-p i) (t .at-q i) (t .at-r i)
 pub ends-told : {x y : Float} {a b c p q : Point} {v w above-x above-y : Bool} → Told x a b c p → Told y a b c q → v ≡ sure x → w ≡ sure y → v && w ≡ true →
     above-x ≡ farAbove x → above-y ≡ farAbove y → (6 * boolByte above-x + 2 * boolByte above-y ≡ endsOver p q a b c) × (6 * boolByte above-x + 2 * boolByte above-y ≤ 8)
 ends-told {x} {y} {v = v} {w = w} {above-x = above-x} {above-y = above-y} tx ty ev ew all ex ey =
-    let each = both-set v w all in (
+    let each = both-true v w all in (
       (λ i. 6 * boolByte (ex i) + 2 * boolByte (ey i)) ∙ regrouped (boolByte (farAbove x)) (boolByte (farAbove y))
           ∙ (λ i. 3 * sure-told tx (sym ev ∙ each .0) i + sure-told ty (sym ew ∙ each .1) i),
-      omega (arith, flag-small above-x, flag-small above-y),
+      omega (arith, bit≤ above-x, bit≤ above-y),
     )
   where
     regrouped : (m n : ℕ) → 6 * m + 2 * n ≡ 3 * (2 * m) + 2 * n
@@ -87,7 +88,7 @@ pub past-told : {x y z : Float} {p q a b c : Point} {u v w below-x above-y below
     u ≡ sure x → v ≡ sure y → w ≡ sure z → u && v && w ≡ true → below-x ≡ farBelow x → above-y ≡ farAbove y → below-z ≡ farBelow z →
     below-x && above-y && below-z ≡ pastNoEdge p q a b c
 past-told {p = p} {q} {a} {b} {c} {u} {v} {w} tx ty tz eu ev ew all ex ey ez =
-    let two = both-set (u && v) w all in
-    let one = both-set u v (two .0) in
+    let two = both-true (u && v) w all in
+    let one = both-true u v (two .0) in
     (λ i. (ex ∙ below-told tx (sym eu ∙ one .0)) i && (ey ∙ above-told ty (sym ev ∙ one .1)) i && (ez ∙ below-told tz (sym ew ∙ two .1)) i)
     ∙ past-by-levels p q a b c refl refl refl

@@ -1,5 +1,5 @@
 -- Low words: of a product by the halves of its factors' bits, of a sum, and the number that a low word tells. Assumes nothing.
-use Prim.Native.Nat.{ℕ, zero, suc, _+_, _*_, _-_, _/_, _%_, _^_, _<_, _≤_}
+use Prim.Native.Nat.{ℕ, suc, _+_, _*_, _-_, _/_, _%_, _^_, _<_, _≤_}
 use native.Mathlib.Nat.{mul-le-mul}
 use native.Mathlib.Omega.{arith}
 use mathlib.Core.Path.{_≡_, refl, sym, ap, ap₂, _∙_, subst}
@@ -11,6 +11,7 @@ use mir.Val.{Fits, SFits, toZ, ofZ}
 use mir.Facts.{toZ-ofZ, toZ-pos}
 use Rattle.algebra.proofs.Expression.{var, lit, neg, _⊞_, _⊠_}
 use Rattle.algebra.proofs.Certificate.{_≐_, eqn, num, _⊕_, prove≡}
+use Rattle.algebra.proofs.Machine.{from-minus-one}
 use Rattle.wide.specs.Low.{HasLowWord}
 use Rattle.wide.specs.declared.Wide.{Wide}
 use Rattle.wide.proofs.Halves.{low, low-is, mod-lt32, halves, high-lt}
@@ -138,10 +139,6 @@ high-told (negsuc n) w l h large = ap negsuc (omega (arith, word-of-negsuc n w (
 -- What code reads of the two: a word below 2^63, and what one from there on leaves of -1.
 pub read-low : (z : ℤ) (w : ℕ) → HasLowWord z w → natAbs z < 2 ^ 63 → w < 2 ^ 63 → toZ w64 w ≡ z
 read-low z w l h small = toZ-pos w64 {n = w} small ∙ low-told z w l h small
-
-from-minus-one : (k : ℕ) → negsuc 0 -ℤ pos k ≡ negsuc k
-from-minus-one zero = refl
-from-minus-one (suc k) = ap negsuc (omega arith)
 
 module _ (w : ℕ) (large : 2 ^ 63 ≤ w) where
   read-high : (negsuc 0 -ℤ toZ w64 (18446744073709551615 - w)) ≡ negsuc (18446744073709551615 - w)

@@ -1,7 +1,7 @@
 -- `deciding::deciding::decide_lists` meets its contract: the candidates, normals and planes of both lists are known when the words are decided. Assumes
 -- nothing.
 use native.Mathlib.Omega.{arith}
-use Rattle.deciding.proofs.Rounds.{both-true}
+use Rattle.exact.proofs.Branches.{both-true}
 use borrow.Author.Needs.{needs}
 use Rattle.deciding.proofs.deciding.decide_lists.Statement.{statement}
 use Rattle.deciding.proofs.deciding.decide_lists.Tie as tie

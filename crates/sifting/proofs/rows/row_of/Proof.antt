@@ -6,7 +6,8 @@ use native.Mathlib.Omega.{arith}
 use lib.IntN.{pos}
 use lib.ListN.{getD}
 use lib.Signed.{ltZ}
-use Rattle.boxes.proofs.BoxLaws.{read-same, lt-true}
+use Rattle.algebra.proofs.Order.{lt-true}
+use Rattle.boxes.proofs.BoxLaws.{read-same}
 use borrow.Author.Needs.{needs}
 use Rattle.sifting.proofs.rows.row_of.Statement.{statement}
 use Rattle.sifting.proofs.rows.row_of.Tie as tie

@@ -7,10 +7,11 @@ use lib.IntN.{ℤ}
 use lib.Signed.{ltZ, _<ℤ_}
 use mir.Syntax.{w32}
 use mir.Val.{toZ, ofZ}
+use Rattle.algebra.proofs.Order.{lt-test}
 use Rattle.algebra.proofs.Machine.{returned}
 use Rattle.words.proofs.BitLaws.{one-more-small}
 use Rattle.boxes.specs.Boxes.{six}
-use Rattle.boxes.proofs.BoxLaws.{read, lt-test}
+use Rattle.boxes.proofs.BoxLaws.{read}
 use Rattle.sifting.specs.Ends.{endOf}
 use Rattle.sifting.specs.Tables.{Sifts}
 use Rattle.sifting.proofs.TableLaws.{one-more-bit, word-fits}

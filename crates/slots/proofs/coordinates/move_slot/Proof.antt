@@ -9,12 +9,12 @@ use lib.Seq.{set-getD}
 use Rattle.algebra.proofs.Parts.{part}
 use Rattle.shape.specs.Points.{moved}
 use Rattle.checks.specs.Grid.{allOn}
+use Rattle.checks.proofs.CheckLaws.{on-all}
 use Rattle.moving.specs.Moves.{steps}
 use Rattle.slots.specs.Slots.{free}
 use Rattle.slots.specs.Changes.{shifted}
 use Rattle.slots.specs.Arrays.{numbersOf, markOf, flat}
 use Rattle.slots.proofs.Sliding.{shifted-other, shifted-own}
-use Rattle.slots.proofs.Grids.{on-tested}
 use Rattle.slots.proofs.Arrays.{coords-written, mark-is, numbers-are}
 use Rattle.slots.proofs.coordinates.move_slot.Statement.{statement}
 use Rattle.slots.proofs.coordinates.move_slot.Tie as tie
@@ -60,7 +60,7 @@ returns c = record {
       let own : markOf x ≡ suc q = sym (mark-is h i) ∙ c .before .before .before .if1 .taken ∙ e in
       let was : take (9 * i + 9 - 9 * i) (drop (9 * i) coords) ≡ numbersOf x = part (9 * i) 9 coords ∙ numbers-are h i (omega arith) in
       let is : moved by (take (9 * i + 9 - 9 * i) (drop (9 * i) coords)) ≡ numbersOf (shifted q by x) = ap (moved by) was ∙ sym (shifted-own q by x own) in
-      let new = c .before .move-numbers .ensures (ap allOn is ∙ on-tested (numbersOf (shifted q by x)) (f .each)) in
+      let new = c .before .move-numbers .ensures (ap allOn is ∙ on-all (numbersOf (shifted q by x)) (f .each)) in
       coords-written h i (shifted q by x) (9 * i + 9 - 9 * i) (omega arith) (omega arith) (new ∙ is);
 }
 

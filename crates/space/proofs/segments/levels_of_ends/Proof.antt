@@ -4,8 +4,8 @@ use Prim.Native.Nat.{_+_, _*_}
 use native.Mathlib.Omega.{arith}
 use borrow.Author.Needs.{needs}
 use Rattle.exact.specs.Vectors.{spatial}
+use Rattle.exact.proofs.Branches.{bit≤}
 use Rattle.exact.proofs.LevelLaws.{estimate-told, level-from-first}
-use Rattle.space.proofs.Guesses.{flag-small}
 use Rattle.space.proofs.SegmentLaws.{ends-told}
 use Rattle.space.proofs.segments.levels_of_ends.Statement.{statement}
 use Rattle.space.proofs.segments.levels_of_ends.Tie as tie
@@ -41,7 +41,7 @@ cast-result : tie.Need-cast-result
 cast-result c = search needs
 
 mul-result : tie.Need-mul-result
-mul-result c = omega (arith, flag-small (c .is-above .result))
+mul-result c = omega (arith, bit≤ (c .is-above .result))
 
 is-above-requires-2 : tie.Need-is-above-requires-2
 is-above-requires-2 c κs = search needs
@@ -50,10 +50,10 @@ cast-result-2 : tie.Need-cast-result-2
 cast-result-2 c = search needs
 
 mul-result-2 : tie.Need-mul-result-2
-mul-result-2 c = omega (arith, flag-small (c .is-above2 .result))
+mul-result-2 c = omega (arith, bit≤ (c .is-above2 .result))
 
 add-result : tie.Need-add-result
-add-result c = omega (arith, flag-small (c .before .is-above .result), flag-small (c .is-above2 .result))
+add-result c = omega (arith, bit≤ (c .before .is-above .result), bit≤ (c .is-above2 .result))
 
 returns : tie.Need-returns
 returns c =

@@ -1,8 +1,9 @@
 -- `space::signs::estimated_signs` meets its contract: sure estimates tell the levels. Assumes nothing.
 use mathlib.Core.Bool.{_&&_}
 use native.Mathlib.Omega.{arith}
+use Rattle.exact.proofs.Branches.{bit≤}
 use Rattle.exact.proofs.LevelLaws.{estimate-told}
-use Rattle.space.proofs.Guesses.{flag-small, signs-told, signs-found}
+use Rattle.space.proofs.Guesses.{signs-told, signs-found}
 use borrow.Author.Needs.{needs}
 use Rattle.space.proofs.signs.estimated_signs.Statement.{statement}
 use Rattle.space.proofs.signs.estimated_signs.Tie as tie
@@ -47,13 +48,13 @@ cast-result-2 : tie.Need-cast-result-2
 cast-result-2 c = search needs
 
 sub-result : tie.Need-sub-result
-sub-result c = flag-small (c .before .is-sure .result && c .is-sure2 .result)
+sub-result c = bit≤ (c .before .is-sure .result && c .is-sure2 .result)
 
 mul-result : tie.Need-mul-result
 mul-result c = omega arith
 
 add-result : tie.Need-add-result
-add-result c = omega (arith, flag-small (c .before .before .before .is-below .result && c .before .before .is-below2 .result))
+add-result c = omega (arith, bit≤ (c .before .before .before .is-below .result && c .before .before .is-below2 .result))
 
 returns : tie.Need-returns
 returns c =

@@ -1,8 +1,9 @@
 -- `space::standings::guess_of` meets its contract: sure estimates tell the levels. Assumes nothing.
 use mathlib.Core.Bool.{_&&_}
 use native.Mathlib.Omega.{arith}
+use Rattle.exact.proofs.Branches.{bit≤}
 use Rattle.exact.proofs.LevelLaws.{estimate-told}
-use Rattle.space.proofs.Guesses.{flag-small, level-small, guessed}
+use Rattle.space.proofs.Guesses.{level-small, guessed}
 use borrow.Author.Needs.{needs}
 use Rattle.space.proofs.standings.guess_of.Statement.{statement}
 use Rattle.space.proofs.standings.guess_of.Tie as tie
@@ -73,7 +74,7 @@ cast-t21 : tie.Need-cast-t21
 cast-t21 c = search needs
 
 sub-t22 : tie.Need-sub-t22
-sub-t22 c = flag-small (c .before .before .is-sure .result && c .before .is-sure2 .result && c .is-sure3 .result)
+sub-t22 c = bit≤ (c .before .before .is-sure .result && c .before .is-sure2 .result && c .is-sure3 .result)
 
 returns : tie.Need-returns
 returns c =

@@ -5,7 +5,7 @@ use Prim.Native.Nat.{_*_}
 use native.Mathlib.Omega.{arith}
 use borrow.Author.Needs.{needs}
 use mir.Val.{boolByte}
-use Rattle.space.proofs.Guesses.{flag-small}
+use Rattle.exact.proofs.Branches.{bit≤}
 use Rattle.space.proofs.standings.sure_level.Statement.{statement}
 use Rattle.space.proofs.standings.sure_level.Tie as tie
 
@@ -16,7 +16,7 @@ cast-result : tie.Need-cast-result
 cast-result c = search needs
 
 mul-result : tie.Need-mul-result
-mul-result c = omega (arith, flag-small (c .is-above .result))
+mul-result c = omega (arith, bit≤ (c .is-above .result))
 
 returns : tie.Need-returns
 returns c = ap (λ (b : Bool). 2 * boolByte b) (c .is-above .ensures)
