@@ -1,7 +1,7 @@
 -- The contract leaves no second text: a sheet has one. And bytes behind the 65,537th don't matter. Assumes nothing.
 use mathlib.Core.Path.{_≡_, refl, sym, ap, _∙_, subst}
 use mathlib.Core.List.{List, [], _∷_, _++_}
-use Prim.Native.Nat.{ℕ, _+_, _≤_}
+use Prim.Native.Nat.{ℕ, _≤_}
 use native.Mathlib.Omega.{arith}
 use lib.ListN.{length, length-take, take, drop, take-append-drop}
 use lib.Seq.{take-all, length-take-le}

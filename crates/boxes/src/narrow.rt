@@ -1,5 +1,4 @@
 // Whether the numbers of a list are so small that low words tell every side, as they did for all lists on the grid before Q-6.
-ghost use mathlib.Core.Path.{_≡_};
 ghost use Prim.Native.Nat.{_≤_};
 ghost use lib.IntN.{natAbs};
 ghost use Rattle.shape.specs.Verdicts.{Says};

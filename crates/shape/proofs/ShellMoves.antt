@@ -6,7 +6,7 @@ use mathlib.Core.List.{List, [], _∷_, _++_, map}
 use mathlib.Core.Logic.{_↔_}
 use Prim.Native.Nat.{ℕ, suc}
 use lib.Dec.{eqb}
-use lib.IntN.{ℤ, pos, _-ℤ_, _*ℤ_}
+use lib.IntN.{pos, _-ℤ_, _*ℤ_}
 use Rattle.algebra.proofs.Expression.{var, _⊞_, _⊟_}
 use Rattle.algebra.proofs.Solver.{ring}
 use Rattle.shape.specs.Points.{Point, Shape, coord, moved, movedAll}

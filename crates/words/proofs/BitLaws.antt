@@ -82,13 +82,6 @@ bit-added-other zero (suc z) word other e = ap (λ (r : ℕ). eqb r 1) {x = (wor
 bit-added-other (suc t) zero word other e = ap (bit t) {x = (word + 1) / 2} {y = word / 2} (omega (arith, even word e))
 bit-added-other (suc t) (suc z) word other e = rw (half-added z word) (bit-added-other t z (word / 2) (λ same. other (ap suc same)) e)
 
-pub ones-added : (n z word : ℕ) → z < n → bit z word ≡ false → ones n (word + 2 ^ z) ≡ ones n word + 1
-ones-added zero z word h e = absurd (omega arith)
-ones-added (suc n) zero word h e =
-    let half : (word + 1) / 2 ≡ word / 2 = omega (arith, even word e) in
-    rw half (omega (arith, even word e))
-ones-added (suc n) (suc z) word h e = rw (half-added z word) (omega (arith, ones-added n z (word / 2) (omega arith) e))
-
 pub added-small : (n z word : ℕ) → word < 2 ^ n → z < n → bit z word ≡ false → word + 2 ^ z < 2 ^ n
 added-small zero z word small h e = absurd (omega arith)
 added-small (suc n) zero word small h e = omega (arith, even word e)

@@ -5,8 +5,8 @@ use Prim.Native.Nat.{ℕ, _+_, _*_, _^_, _<_}
 use native.Mathlib.Omega.{arith}
 use native.Mathlib.Decide.{ℕ-discrete}
 use mir.Val.{boolByte}
-use Rattle.words.specs.Bits.{bit, ones, Lowest}
-use Rattle.words.proofs.BitLaws.{bit-of-none, bit-added, bit-added-other, ones-added, added-small}
+use Rattle.words.specs.Bits.{bit, Lowest}
+use Rattle.words.proofs.BitLaws.{bit-added, bit-added-other, added-small}
 use Rattle.words.proofs.LowestLaws.{lowest-is-set, lowest-is-gone, others-stay, rest-less, lowest-within}
 
 -- No bit is both set and clear.
@@ -31,10 +31,6 @@ module _ (z word : ℕ) (none : bit z word ≡ false) where
   pub put-other : (v : Bool) (t : ℕ) → (t ≡ z → ⊥) → bit t (put z word v) ≡ bit t word
   put-other true t other = rw (put-same .1) (bit-added-other t z word other none)
   put-other false t other = rw (put-same .0)
-
-  pub put-ones : (v : Bool) (n : ℕ) → z < n → ones n (put z word v) ≡ ones n word + boolByte v
-  put-ones true n h = rw (put-same .1) (ones-added n z word h none)
-  put-ones false n h = rw (put-same .0) (omega arith)
 
   pub put-small : (v : Bool) (n : ℕ) → z < n → word < 2 ^ n → put z word v < 2 ^ n
   put-small true n h small = rw (put-same .1) (added-small n z word small h none)

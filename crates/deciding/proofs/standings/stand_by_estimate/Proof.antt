@@ -4,7 +4,7 @@ use Prim.Native.Nat.{ℕ}
 use native.Mathlib.Omega.{arith}
 use Rattle.words.proofs.BitLaws.{bit-of-none}
 use Rattle.words.proofs.LowestLaws.{lowest-found, lowest-is-set, rest-less}
-use Rattle.words.proofs.Filling.{filled-place, filled-fits}
+use Rattle.words.proofs.Filling.{filled-fits}
 use Rattle.deciding.specs.Stages.{SeemsAt, seemsAlone, isOpen}
 use Rattle.deciding.proofs.StageLaws.{Sorting, flagged, sorting-starts, sorting-on, sorting-ends}
 use borrow.Author.Needs.{needs}

@@ -1,5 +1,5 @@
 -- `deciding::verdicts::cross_by_estimate` meets its contract: each turn finds the signs of the lowest place. Assumes nothing.
-use mathlib.Core.Path.{_≡_, subst}
+use mathlib.Core.Path.{subst}
 use Prim.Native.Nat.{ℕ}
 use native.Mathlib.Omega.{arith}
 use lib.Dec.{eqb, ltb}

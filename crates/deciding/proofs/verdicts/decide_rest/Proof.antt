@@ -3,7 +3,7 @@ use mathlib.Core.Path.{subst}
 use Prim.Native.Nat.{ℕ}
 use native.Mathlib.Omega.{arith}
 use Rattle.words.proofs.LowestLaws.{lowest-found, lowest-is-set, rest-less}
-use Rattle.words.proofs.Filling.{Filled, filled-starts, filled-on, filled-fits}
+use Rattle.words.proofs.Filling.{Filled, filled-starts, filled-fits}
 use Rattle.deciding.specs.Stages.{indexOf, JudgedAt}
 use Rattle.deciding.proofs.StageLaws.{second-narrow-nine, flag-added, marked}
 use borrow.Author.Needs.{needs}

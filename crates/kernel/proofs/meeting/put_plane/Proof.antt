@@ -1,7 +1,6 @@
 -- `kernel::meeting::put_plane` meets its contract: the three numbers are stored one by one. Assumes nothing.
 use mathlib.Core.Path.{ap, _∙_}
-use mathlib.Core.List.{List, [], _∷_}
-use lib.Ieee.{Float}
+use mathlib.Core.List.{[], _∷_}
 use borrow.Author.Needs.{needs}
 use Rattle.estimates.specs.Doubles.{planeOf, rough}
 use Rattle.estimates.specs.declared.Plane.{Plane}

@@ -1,6 +1,6 @@
 -- `shells::closing::listed_times` meets its contract: the three edges are counted. Assumes nothing.
 use mathlib.Core.Path.{_∙_}
-use Prim.Native.Nat.{_+_, _*_, _≤_}
+use Prim.Native.Nat.{_+_, _*_}
 use native.Mathlib.Omega.{arith}
 use Rattle.shape.specs.Points.{Point, pointAt}
 use Rattle.shape.specs.Shells.{Edge, sameEdge}
