@@ -8,7 +8,7 @@ use Rattle.slots.specs.Changes.{place, lift, shift}
 use Rattle.plate.specs.Histories.{History, change, undo}
 use Rattle.runs.specs.PlateRuns.{call, parts, unknown, askOf, Six}
 
-numbers : List ℤ
+abbrev numbers : List ℤ
 numbers = pos 4 ∷ pos 5 ∷ pos 6 ∷ []
 
 pub kinds-row : (askOf 0 2 3 numbers ≡ unknown) × (askOf 1 2 3 numbers ≡ call (change (place 2 3 numbers))) × (askOf 2 2 3 numbers ≡ call (change (lift 2))) ×
