@@ -3,7 +3,7 @@ use mathlib.Core.Path.{_≡_, refl, subst}
 use mathlib.Core.List.{List, [], _∷_}
 use Prim.Native.Nat.{ℕ, _<_}
 use lib.ListN.{length}
-use Rattle.lines.specs.Lines.{lineOf}
+use Rattle.lines.specs.Lines.{lineOf, decimal}
 use Rattle.answering.specs.Sheets.{longest, Output, long}
 
 pub longest-row : longest ≡ 65536
@@ -11,7 +11,7 @@ longest-row = refl
 
 -- `15 0` and a newline.
 fifteen : lineOf 15 0 ≡ 49 ∷ 53 ∷ 32 ∷ 48 ∷ 10 ∷ []
-unfolding lineOf
+unfolding lineOf decimal
 fifteen = refl
 
 pub too-long-row : (sheet : List ℕ) → 65536 < length sheet → Output sheet (49 ∷ 53 ∷ 32 ∷ 48 ∷ 10 ∷ [])
