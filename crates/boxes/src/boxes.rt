@@ -1,6 +1,6 @@
 // What is found out once of each triangle of a list, and not once of each pair. Its box, which tells of most pairs of a large bed that they are
-// apart: six numbers, the least x, y and z of the corners and then the greatest. And its normal, three
-// numbers, and its plane, three doubles, which the pair test asks for.
+// apart: six numbers, the least x, y and z of the corners and then the greatest. And its normal, three numbers, and its plane, three doubles, which
+// the pair test asks for.
 use kernel::put_normal;
 use kernel::put_plane;
 ghost use mathlib.Core.Path.{_≡_};
