@@ -1,0 +1,16 @@
+-- `answering::answer::answer_sheet` meets its contract: a sheet that is too long has one line, and any other its lines. Assumes nothing.
+use native.Mathlib.Omega.{arith}
+use Rattle.answering.proofs.SheetLaws.{answers}
+use Rattle.answering.specs.Sheets.{long, read}
+use borrow.Author.Rules.{rules}
+use Rattle.answering.proofs.answer.answer_sheet.Goals as goal
+
+pub returns-then-sheet-gt-LONGEST : goal.returns-then-sheet-gt-LONGEST
+returns-then-sheet-gt-LONGEST c =
+    let p = c.put_line.ensures in
+    answers c.args.out.now (long c.if-sheet-gt-LONGEST.true) (omega (arith, p.0)) p.1
+
+pub returns : goal.returns
+returns c =
+    let w = c.write_lines.ensures in
+    answers c.args.out.now (read c.if-sheet-gt-LONGEST.false w.right) w.size w.leaves

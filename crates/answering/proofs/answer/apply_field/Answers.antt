@@ -1,0 +1,46 @@
+-- `answering::answer::apply_field` meets its contract: the line has the number of the outcome and the true count. Assumes nothing.
+use mathlib.Core.Path.{◌≡◌, sym, ap, ◌∙◌, subst}
+use mathlib.Core.List.{List, ◌∷◌}
+use Prim.Native.Nat.{ℕ, ◌+◌, ◌<◌}
+use lib.ListN.{length}
+use Rattle.checks.specs.Answers.{number_of}
+use Rattle.checks.specs.Told.{told_check}
+use Rattle.plate.specs.Histories.{Call, outcome, run}
+use Rattle.plate.specs.Plates.{Stands}
+use Rattle.asking.specs.Calls.{call_of}
+use Rattle.lines.specs.Laid.{laid}
+use Rattle.lines.specs.Lines.{line_of}
+use Rattle.answering.proofs.Small.{small_count, small_number}
+use Rattle.answering.proofs.SheetLaws.{call_told}
+use borrow.Author.Rules.{rules}
+use Rattle.answering.proofs.answer.apply_field.Goals as goal
+
+-- What the call told, whatever calls made the plate.
+module _ (p : tie.After-apply) where
+  told : let s = p.before.before.before in (before : List Call) → Stands (run before) s.args.plate →
+      let c = call_of s.args.tag s.args.body.now in
+      (number_of (told_check p.apply.result.told) ≡ number_of (outcome (run before) c)) × Stands (run (c ∷ before)) p.apply.result.plate
+  told = call_told p.apply.result p.apply.ensures
+
+pub put_line-next-requires : goal.put_line-next-requires
+put_line-next-requires c =
+    let st = c.requires.0 in
+    let t = told c st.calls st.stands in
+    let call = call_of c.args.tag c.args.body.now in (
+      subst (λ (n : ℕ). n < 100) (sym (c.number_of.ensures ∙ t.0)) (small_number (run st.calls) call),
+      small_count (call ∷ st.calls) t.1,
+      c.requires.2,
+    )
+
+pub returns : goal.returns
+returns c =
+    record {
+      kept = λ before st.
+          let t = told c before st in
+          let is = c.number_of.ensures ∙ t.0 in
+          record {
+            stands = t.1;
+            place = c.put_line-next.ensures.0 ∙ ap (λ (k : ℕ). c.args.end + length (line_of k c.apply-answer.result.plate.count)) is;
+            is = c.put_line-next.ensures.1 ∙ ap (λ (k : ℕ). laid c.args.out.now c.args.end (line_of k c.apply-answer.result.plate.count)) is;
+          };
+    }

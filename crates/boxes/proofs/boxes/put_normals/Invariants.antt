@@ -1,0 +1,15 @@
+-- `boxes::boxes::put_normals` meets its contract: the normals before i are written, and the next leaves them. Assumes nothing.
+use mathlib.Core.Path.{refl}
+use Prim.Native.Nat.{◌-◌, ◌*◌}
+use native.Mathlib.Omega.{arith}
+use borrow.Author.Rules.{rules}
+use Rattle.algebra.proofs.Parts.{length_lent}
+use Rattle.exact.specs.Vectors.{normal_in}
+use Rattle.boxes.proofs.Rows.{Written, lent_ready, none_written, one_more}
+use Rattle.boxes.proofs.boxes.put_normals.Given as goal
+
+abbrev pub invariant-loop-i : goal.invariant-loop-i
+invariant-loop-i l = Written 3 normal_in l.l.initial.i l.initial.normals l.initial.i l.i
+
+abbrev pub decreases-loop-i : goal.decreases-loop-i
+decreases-loop-i l = l.numbers - l.i

@@ -1,0 +1,19 @@
+-- `deciding::deciding::decide_words` meets its contract: the words before k are decided, and the others still have their candidates. Assumes nothing.
+use mathlib.Core.Path.{◌≡◌, refl, subst, ◌∙◌}
+use Prim.Native.Nat.{ℕ, ◌-◌, ◌*◌, ◌/◌, ◌<◌, ◌≤◌}
+use native.Mathlib.Omega.{arith}
+use lib.ListN.{length, get_or, length-set}
+use lib.Seq.{get_or-set_other}
+use Rattle.words.specs.Spans.{first_of, span}
+use Rattle.boxes.specs.Triangles.{triangles, nine}
+use Rattle.deciding.specs.Words.{MayMeet, Decided}
+use Rattle.deciding.proofs.WordLaws.{decided_on, few_below}
+use borrow.Author.Rules.{rules}
+use Rattle.deciding.proofs.deciding.decide_words.Given as goal
+
+abbrev pub invariant-loop-k : goal.invariant-loop-k
+invariant-loop-k l =
+    (l.k ≤ l.words) × (length l.l.initial.k ≡ length l.initial.words) × Decided l.first l.second l.l.initial.k l.k l.initial.k × ((j : ℕ) → l.k ≤ j → get_or l.l.initial.k j 0 ≡ get_or l.initial.words j 0)
+
+abbrev pub decreases-loop-k : goal.decreases-loop-k
+decreases-loop-k l = l.words - l.k

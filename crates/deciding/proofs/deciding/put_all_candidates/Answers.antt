@@ -1,0 +1,10 @@
+-- `deciding::deciding::put_all_candidates` meets its contract: the boxes of both lists are known when they are sifted. Assumes nothing.
+use Rattle.deciding.proofs.WordLaws.{may_meet}
+use borrow.Author.Rules.{rules}
+use Rattle.deciding.proofs.deciding.put_all_candidates.Goals as goal
+
+pub returns : goal.returns
+returns c =
+    let a = c.args in
+    may_meet a.first.now a.second.now c.put_boxes.new.0 c.put_boxes-2.new.0 c.put_candidates.new.0 c.put_boxes.ensures
+    c.put_boxes-2.ensures c.put_candidates.ensures

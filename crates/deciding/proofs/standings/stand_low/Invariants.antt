@@ -1,0 +1,18 @@
+-- `deciding::standings::stand_low` meets its contract: each turn finds the standing of the lowest place. Assumes nothing.
+use mathlib.Core.Path.{subst}
+use Prim.Native.Nat.{ℕ}
+use native.Mathlib.Omega.{arith}
+use Rattle.words.proofs.BitLaws.{bit_of_none}
+use Rattle.words.proofs.LowestLaws.{lowest_found, lowest_is_set, rest_less}
+use Rattle.words.proofs.Filling.{filled_fits}
+use Rattle.deciding.specs.Stages.{index_of, StandsAt, is_alone, is_within}
+use Rattle.deciding.proofs.StageLaws.{Sorting, narrow_nine, sorting_starts, sorting_on, sorting_ends}
+use borrow.Author.Rules.{rules}
+use Rattle.deciding.proofs.standings.stand_low.Given as goal
+
+abbrev pub invariant-loop-left : goal.invariant-loop-left
+invariant-loop-left l =
+    Sorting (StandsAt l.standings l.step l.l.standings l.start l.l.step l.l.l.step) is_alone is_within l.normals 0 l.asked l.initial.standings l.left l.initial.other l.other l.initial.left
+
+abbrev pub decreases-loop-left : goal.decreases-loop-left
+decreases-loop-left l = l.left

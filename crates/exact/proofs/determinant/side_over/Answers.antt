@@ -1,0 +1,11 @@
+-- `exact::determinant::side_over` meets its contract: the product of the row and the normal. Assumes nothing.
+use Rattle.std.proofs.Common.{ap, ◌∙◌, rules}
+use Rattle.shape.specs.Points.{Point}
+use Rattle.shape.specs.Normals.{dot}
+use Rattle.exact.specs.Vectors.{spatial}
+use Rattle.exact.proofs.determinant.side_over.Goals as goal
+
+pub returns : goal.returns
+returns c =
+    let p = c.args in
+    c.dot_of.ensures ∙ ap (λ (u : Point). dot u (spatial p.normal)) c.row_of.ensures.0

@@ -1,0 +1,16 @@
+-- `inside::corners::odd_ahead` meets its contract: odd says it of the first i triangles. Assumes nothing.
+use mathlib.Core.Path.{◌≡◌, ap, ◌∙◌}
+use Prim.Native.Nat.{ℕ, ◌-◌, ◌≤◌}
+use native.Mathlib.Omega.{arith}
+use Rattle.shape.specs.InsideTest.{odd_ahead}
+use Rattle.shape.specs.TriangleLists.{triangles_in}
+use Rattle.shape.proofs.TriangleLists.{odd_none, odd_more}
+use Rattle.exact.specs.Vectors.{spatial}
+use borrow.Author.Rules.{rules}
+use Rattle.inside.proofs.corners.odd_ahead.Given as goal
+
+abbrev pub invariant-loop-i : goal.invariant-loop-i
+invariant-loop-i l = (l.i ≤ l.many) × (l.initial.i ≡ odd_ahead (spatial l.p) (triangles_in l.i l.triangles))
+
+abbrev pub decreases-loop-i : goal.decreases-loop-i
+decreases-loop-i l = l.many - l.i

@@ -1,0 +1,13 @@
+-- `keeping::journal::pushed` meets its contract: the latest entry stands first, and behind it the first n of the old ones. Assumes nothing.
+use Rattle.std.proofs.Common.{◌≡◌, ℕ, suc, ◌+◌, ◌-◌, ◌≤◌, ◌∷◌, length, get_or, take, drop, set, sym, ap, ◌∙◌, add-one, arith, length-set, get_or-set_same, rules}
+use Rattle.algebra.proofs.Copying.{over, over_more, over_end}
+use Rattle.keeping.specs.Journal.{blank}
+use Rattle.keeping.specs.declared.journal.Entry.{Entry}
+use Rattle.keeping.proofs.Past.{unread}
+use Rattle.keeping.proofs.journal.pushed.Given as goal
+
+abbrev pub invariant-loop-n : goal.invariant-loop-n
+invariant-loop-n l = (l.n ≤ 31) × (length l.initial.n ≡ 32) × (l.initial.n ≡ over l.old (get_or l.initial.journal 0 blank ∷ l.old) (suc l.n))
+
+abbrev pub decreases-loop-n : goal.decreases-loop-n
+decreases-loop-n l = 31 - l.n

@@ -1,0 +1,18 @@
+-- `listing::writing::put_pairs` meets its contract: each turn writes what the next word tells. Assumes nothing.
+use mathlib.Core.Path.{◌≡◌, ap, subst, ◌∙◌}
+use mathlib.Core.List.{List, ◌++◌}
+use Prim.Native.Nat.{ℕ, suc, ◌+◌, ◌-◌, ◌*◌, ◌<◌, ◌≤◌}
+use native.Mathlib.Omega.{arith}
+use borrow.Author.Rules.{rules}
+use Rattle.listing.specs.Pairs.{gathered, two_each}
+use Rattle.listing.specs.Writing.{told_by}
+use Rattle.listing.proofs.Filling.{Filling, filling_starts, length_free, room_for_more, filled_on, filling_ends}
+use Rattle.listing.proofs.Gathering.{two_each_append}
+use Rattle.listing.proofs.writing.put_pairs.Given as goal
+
+abbrev pub invariant-loop-k : goal.invariant-loop-k
+invariant-loop-k l =
+    (l.k ≤ l.l.words) × Filling (two_each (gathered (told_by l.l.l.initial.k) 0 l.l.words)) l.initial.out (two_each (gathered (told_by l.l.l.initial.k) l.k (l.l.words - l.k))) l.l.initial.k l.initial.k
+
+abbrev pub decreases-loop-k : goal.decreases-loop-k
+decreases-loop-k l = l.l.words - l.k

@@ -1,0 +1,76 @@
+-- `moving::steps::move_numbers` meets its contract: after k numbers the first k are those of the list moved, and the others are still
+-- the old ones. This is known only where the whole list stays on the grid; its length is kept in any case. Assumes nothing.
+use mathlib.Core.Path.{◌≡◌, sym, ap, ◌∙◌}
+use mathlib.Core.Bool.{Bool, true}
+use mathlib.Core.List.{List}
+use Prim.Native.Nat.{ℕ, ◌+◌, ◌-◌, ◌^◌, ◌<◌, ◌≤◌}
+use native.Mathlib.Numerals.{add-one}
+use native.Mathlib.Omega.{arith}
+use borrow.Author.Rules.{rules}
+use lib.IntN.{ℤ, pos, ◌+ℤ◌}
+use lib.ListN.{length, get_or, set}
+use lib.Signed.{mag}
+use mir.Syntax.{w32}
+use mir.Val.{to_z, of_z, hbits}
+use Rattle.algebra.proofs.Copying.{over, over_at, over_more, over_all}
+use Rattle.algebra.proofs.Machine.{returned}
+use Rattle.shape.specs.Points.{moved}
+use Rattle.checks.specs.Grid.{on_grid, all_on}
+use Rattle.checks.proofs.GridLaws.{all_on_says}
+use Rattle.moving.specs.Moves.{step, steps}
+use Rattle.moving.proofs.MoveLaws.{length_moved, moved_at, steps_long, sum_read}
+use Rattle.moving.proofs.steps.move_numbers.Goals as goal
+
+-- the list that is to come out
+abbrev out : List ℤ → List ℤ → Bool → List ℤ
+out numbers by back = moved (steps back by) numbers
+
+out-long : (numbers by : List ℤ) (back : Bool) → length by ≡ length numbers → length (out numbers by back) ≡ length numbers
+out-long numbers by back e = length_moved (steps back by) numbers (steps_long back by ∙ e)
+
+-- The list l has its first k numbers moved, and number k is next.
+module _ (numbers by : List ℤ) (back : Bool) (e : length by ≡ length numbers) (k : ℕ) (inside : k < length numbers)
+    {l : List ℤ} (begun : l ≡ over numbers (out numbers by back) k) where
+  next-inside : k < length (out numbers by back)
+  next-inside = omega (arith, out-long numbers by back e)
+
+  -- It is still the old one, so the sum of what the code reads is the number that is to come out.
+  next-sum : mag (get_or by k (pos 0)) < 2 ^ hbits w32 → mag (get_or l k (pos 0)) < 2 ^ hbits w32 →
+      step back (to_z w32 (of_z w32 (get_or by k (pos 0)))) +ℤ to_z w32 (of_z w32 (get_or l k (pos 0))) ≡ get_or (out numbers by back) k (pos 0)
+  next-sum f g =
+      sum_read back (get_or by k (pos 0)) (get_or l k (pos 0)) f g
+      ∙ ap (λ (z : ℤ). step back (get_or by k (pos 0)) +ℤ z)
+      (ap (λ (r : List ℤ). get_or r k (pos 0)) begun ∙ over_at numbers (out numbers by back) k (pos 0) inside next-inside)
+      ∙ sym (moved_at back by numbers k)
+
+  -- Stored, it makes one moved number more.
+  next-set : {v : ℤ} → v ≡ get_or (out numbers by back) k (pos 0) → set l k v ≡ over numbers (out numbers by back) (k + 1)
+  next-set is =
+      (λ i. set (begun i) k (is i))
+      ∙ over_more numbers (out numbers by back) k (pos 0) inside next-inside
+      ∙ ap (over numbers (out numbers by back)) (sym (add-one k))
+
+pub loop-k-preserved : goal.loop-k-preserved
+loop-k-preserved c =
+    let old = c.args.numbers.now in
+    let by = c.args.by.now in
+    let back = c.args.back in
+    let k = c.loop-k.k in
+    let e = c.requires in
+    let inside : k < length old = omega (arith, c.loop-k-test.true, c.loop-k.invariant.1) in (
+      search rules,
+      search rules,
+      λ all.
+          let begun = c.loop-k.invariant.2 all in
+          let made = next-sum old by back e k inside begun c.landed-arg-in-loop-k-1.given c.landed-arg-1.given in
+          let on = (all_on_says (out old by back)).yes all k (next-inside old by back e k inside begun) in
+          next-set old by back e k inside begun (returned w32 c.landed.type_inv (c.landed.ensures (ap on_grid made ∙ on) ∙ made)),
+    )
+
+pub returns : goal.returns
+returns c = λ all.
+    let old = c.args.numbers.now in
+    let s = out old c.args.by.now c.args.back in
+    let long : length s ≡ length old = out-long old c.args.by.now c.args.back c.requires in
+    let end : length old ≤ c.loop-k.k = omega (arith, c.loop-k-test.false, c.loop-k.invariant.1) in
+    c.loop-k.invariant.2 all ∙ over_all old s c.loop-k.k end (omega arith)

@@ -1,0 +1,18 @@
+-- `sifting::candidates::put_row` meets its contract: the words before w are written, and those of the boxes before stay. Assumes nothing.
+use mathlib.Core.Path.{◌≡◌, refl, ◌∙◌}
+use Prim.Native.Nat.{ℕ, ◌+◌, ◌-◌, ◌*◌, ◌≤◌, ◌<◌}
+use native.Mathlib.Omega.{arith}
+use lib.ListN.{length, get_or, length-set}
+use lib.Seq.{get_or-set_other}
+use Rattle.algebra.proofs.Copying.{written_at}
+use Rattle.sifting.specs.Tables.{Joined}
+use borrow.Author.Rules.{rules}
+use Rattle.sifting.proofs.candidates.put_row.Given as goal
+
+abbrev pub invariant-loop-w : goal.invariant-loop-w
+invariant-loop-w l =
+    (l.w ≤ 16) × (length l.initial.w ≡ length l.initial.words) × ((k : ℕ) → k < l.words * 16 → get_or l.initial.w k 0 ≡ get_or l.initial.words k 0)
+    × ((v : ℕ) → v < l.w → Joined l.l.words l.table v (get_or l.initial.w (l.words * 16 + v) 0))
+
+abbrev pub decreases-loop-w : goal.decreases-loop-w
+decreases-loop-w l = 16 - l.w

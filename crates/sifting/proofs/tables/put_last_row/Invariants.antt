@@ -1,0 +1,18 @@
+-- `sifting::tables::put_last_row` meets its contract: the words before w are written, and the rows before stay. Assumes nothing.
+use mathlib.Core.Path.{◌≡◌, refl, ap, ◌∙◌}
+use Prim.Native.Nat.{ℕ, ◌+◌, ◌-◌, ◌*◌, ◌^◌, ◌≤◌, ◌<◌}
+use native.Mathlib.Omega.{arith}
+use lib.ListN.{length, get_or, length-set}
+use lib.Seq.{get_or-set_other}
+use Rattle.algebra.proofs.Copying.{written_at}
+use Rattle.words.specs.Spans.{span}
+use Rattle.sifting.specs.Tables.{AllSet}
+use borrow.Author.Rules.{rules}
+use Rattle.sifting.proofs.tables.put_last_row.Given as goal
+
+abbrev pub invariant-loop-w : goal.invariant-loop-w
+invariant-loop-w l =
+    (l.w ≤ 16) × (length l.initial.w ≡ 1552) × ((v : ℕ) → v < l.w → AllSet l.table l.initial.w v) × ((k : ℕ) → k < 1536 → get_or l.initial.w k 0 ≡ get_or l.initial.table k 0)
+
+abbrev pub decreases-loop-w : goal.decreases-loop-w
+decreases-loop-w l = 16 - l.w

@@ -1,0 +1,22 @@
+-- `slots::gathering::gather_part` meets its contract: the list holds the triangles of the part among the first i slots. Assumes nothing.
+use mathlib.Core.Path.{◌≡◌, ◌∙◌}
+use mathlib.Core.List.{List}
+use Prim.Native.Nat.{ℕ, suc, ◌-◌, ◌≤◌}
+use native.Mathlib.Omega.{arith}
+use lib.ListN.{take}
+use Rattle.shape.specs.TriangleLists.{triangles_in}
+use Rattle.exact.specs.Grid.{Ready}
+use Rattle.slots.specs.Slots.{Slot}
+use Rattle.slots.specs.Parts.{triangles_of}
+use Rattle.slots.specs.Showing.{Shown}
+use Rattle.slots.proofs.PartTriangles.{gathered_none, gathered_all}
+use borrow.Author.Rules.{rules}
+use Rattle.slots.proofs.gathering.gather_part.Given as goal
+
+abbrev pub invariant-loop-i : goal.invariant-loop-i
+invariant-loop-i l =
+    (l.i ≤ 64) × (l.initial.i ≤ l.i) × Ready 576 l.l.initial.i
+    × ((S : List Slot) (q : ℕ) → Shown S l.coords l.marks → l.mark ≡ suc q → triangles_in l.initial.i l.l.initial.i ≡ triangles_of q (take l.i S))
+
+abbrev pub decreases-loop-i : goal.decreases-loop-i
+decreases-loop-i l = 64 - l.i

@@ -1,0 +1,20 @@
+-- `space::signs::last_signs` meets its contract: both ways to the signs give them. Assumes nothing.
+use Rattle.exact.proofs.Holding.{small_holds}
+use borrow.Author.Rules.{rules}
+use Rattle.space.proofs.signs.last_signs.Goals as goal
+
+pub low_signs-requires : goal.low_signs-requires
+low_signs-requires c =
+    let p = c.requires in
+    let small = p.2 c.if-narrow.true in
+    let t = small.0 in
+    let u = small.1 in
+    let m-is = c.normal_at-m.ensures.0 in
+    let n-is = c.normal_at-n.ensures.0 in (
+      p.0,
+      p.1,
+      m-is,
+      n-is,
+      rw m-is (small_holds t.at_p t.at_q u.at_p u.at_p u.at_q),
+      rw n-is (small_holds t.at_p t.at_r u.at_r u.at_r u.at_p),
+    )

@@ -1,0 +1,16 @@
+-- `space::signs::low_signs` meets its contract: its two tests are those of the decision. Assumes nothing.
+use mathlib.Core.Path.{ap, ◌∙◌}
+use Prim.Native.Nat.{ℕ}
+use borrow.Author.Rules.{rules}
+use lib.Dec.{eqb}
+use Rattle.exact.specs.Vectors.{spatial}
+use Rattle.space.proofs.SpaceLaws.{level_told, neither}
+use Rattle.space.proofs.signs.low_signs.Goals as goal
+
+pub returns : goal.returns
+returns c =
+    let t = c.args.t in
+    let u = c.args.u in
+    let one = c.low_level-one.ensures.0 c.requires.4 ∙ level_told (spatial t.p) (spatial t.q) (spatial u.p) (spatial u.q) c.requires.2 in
+    let two = c.low_level-two.ensures.0 c.requires.5 ∙ level_told (spatial t.p) (spatial t.r) (spatial u.r) (spatial u.p) c.requires.3 in
+    neither (ap (λ (n : ℕ). eqb n 2) one) (ap (λ (n : ℕ). eqb n 2) two)
