@@ -9,26 +9,26 @@ use Rattle.wide.proofs.sub.Goals as goal
 pub overflow_sub-result : goal.overflow_sub-result
 overflow_sub-result c =
     let w = c.wrapping_sub_u64-lo in
-    in_range (difference_wrapped c.args.a c.args.b (search rules) (search rules) (omega arith) (omega arith) w.result c.requires (omega arith) w.ensures (omega (arith, c.if-low-lo.true))).plain tt
+    in_range (difference_wrapped c.args.a c.args.b (search rules) (search rules) (omega arith) (omega arith) w.result c.requires (omega arith) w.ensures.value (omega (arith, c.if-low-lo.true))).plain tt
 
 pub overflow_sub-result-then-low-lo : goal.overflow_sub-result-then-low-lo
 overflow_sub-result-then-low-lo c =
     let w = c.wrapping_sub_u64-lo in
-    in_range (difference_wrapped c.args.a c.args.b (search rules) (search rules) (omega arith) (omega arith) w.result c.requires (omega arith) w.ensures (omega (arith, c.if-low-lo.true))).high tt
+    in_range (difference_wrapped c.args.a c.args.b (search rules) (search rules) (omega arith) (omega arith) w.result c.requires (omega arith) w.ensures.value (omega (arith, c.if-low-lo.true))).high tt
 
 pub overflow_sub-result-else-low-lo : goal.overflow_sub-result-else-low-lo
 overflow_sub-result-else-low-lo c =
     let w = c.wrapping_sub_u64-lo in
-    in_range (difference_plain c.args.a c.args.b (search rules) (search rules) (omega arith) (omega arith) w.result c.requires (omega arith) w.ensures (omega (arith, c.if-low-lo.false))).plain tt
+    in_range (difference_plain c.args.a c.args.b (search rules) (search rules) (omega arith) (omega arith) w.result c.requires (omega arith) w.ensures.value (omega (arith, c.if-low-lo.false))).plain tt
 
 pub returns-then-low-lo : goal.returns-then-low-lo
 returns-then-low-lo c =
     let w = c.wrapping_sub_u64-lo in
-    let r = (difference_wrapped c.args.a c.args.b (search rules) (search rules) (omega arith) (omega arith) w.result c.requires (omega arith) w.ensures (omega (arith, c.if-low-lo.true))) in
+    let r = (difference_wrapped c.args.a c.args.b (search rules) (search rules) (omega arith) (omega arith) w.result c.requires (omega arith) w.ensures.value (omega (arith, c.if-low-lo.true))) in
     ap (λ (h : ℤ). h *ℤ pos (2 ^ 64) +ℤ pos w.result) (held w64 r.high tt).is ∙ r.value_is
 
 pub returns-else-low-lo : goal.returns-else-low-lo
 returns-else-low-lo c =
     let w = c.wrapping_sub_u64-lo in
-    let r = (difference_plain c.args.a c.args.b (search rules) (search rules) (omega arith) (omega arith) w.result c.requires (omega arith) w.ensures (omega (arith, c.if-low-lo.false))) in
+    let r = (difference_plain c.args.a c.args.b (search rules) (search rules) (omega arith) (omega arith) w.result c.requires (omega arith) w.ensures.value (omega (arith, c.if-low-lo.false))) in
     ap (λ (h : ℤ). h *ℤ pos (2 ^ 64) +ℤ pos w.result) ((held w64 r.plain tt).is ∙ sym (+ℤ_idr (c.args.a.hi -ℤ c.args.b.hi))) ∙ r.value_is

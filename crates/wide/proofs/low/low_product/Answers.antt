@@ -28,4 +28,4 @@ overflow_mul-u0-2 c = halves_fit (of_z w64 c.args.u) (of_z w64 c.args.v)
 pub returns : goal.returns
 returns c =
     product_low c.args.u c.args.v c.ranges.u c.ranges.v c.wrapping_add_u64-middle.result c.wrapping_add_u64.result
-    c.wrapping_add_u64-middle.ensures c.wrapping_add_u64.ensures
+    c.wrapping_add_u64-middle.ensures.value c.wrapping_add_u64.ensures.value
