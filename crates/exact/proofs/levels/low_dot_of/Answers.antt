@@ -12,4 +12,4 @@ returns c =
     let x = product_read s.u.x s.n.x u.0.1 n.0.1 c.low_product-x.ensures in
     let y = product_read s.u.y s.n.y u.1.0.1 n.1.0.1 c.low_product-y.ensures in
     let z = product_read s.u.z s.n.z u.1.1.0.1 n.1.1.0.1 c.low_product-z.ensures in
-    sum_low (sum_low x y c.wrapping_add_u64.ensures) z c.wrapping_add_u64-2.ensures
+    sum_low (sum_low x y c.wrapping_add_u64.ensures.value) z c.wrapping_add_u64-2.ensures.value
