@@ -1,5 +1,4 @@
 -- `estimates::cross_of` meets its contract: each field is its component. Assumes nothing.
-use borrow.Author.Rules.{rules}
 use Rattle.estimates.proofs.cross_of.Goals as goal
 
 pub returns : goal.returns

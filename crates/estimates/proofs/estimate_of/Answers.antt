@@ -1,7 +1,6 @@
 -- `estimates::estimate_of` meets its contract: the difference, and the product with it. Assumes nothing.
 use mathlib.Core.Path.{◌∙◌}
 use Rattle.estimates.specs.Doubles.{product}
-use borrow.Author.Rules.{rules}
 use Rattle.estimates.proofs.estimate_of.Goals as goal
 
 pub returns : goal.returns

@@ -1,7 +1,6 @@
 -- `estimates::plane_of` meets its contract: the two differences, and their product. Assumes nothing.
 use mathlib.Core.Path.{◌∙◌}
 use Rattle.estimates.specs.Doubles.{cross}
-use borrow.Author.Rules.{rules}
 use Rattle.estimates.proofs.plane_of.Goals as goal
 
 pub returns : goal.returns

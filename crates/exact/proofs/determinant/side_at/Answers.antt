@@ -1,5 +1,5 @@
 -- `exact::determinant::side_at` meets its contract: the side over the plane's normal is the determinant. Assumes nothing.
-use Rattle.std.proofs.Common.{ap, ◌∙◌, rules}
+use Rattle.std.proofs.Common.{ap, ◌∙◌}
 use Rattle.shape.specs.Signs.{row}
 use Rattle.shape.specs.Normals.{dot}
 use Rattle.shape.proofs.Planes.{side_by_normal}

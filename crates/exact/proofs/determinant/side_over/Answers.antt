@@ -1,5 +1,5 @@
 -- `exact::determinant::side_over` meets its contract: the product of the row and the normal. Assumes nothing.
-use Rattle.std.proofs.Common.{ap, ◌∙◌, rules}
+use Rattle.std.proofs.Common.{ap, ◌∙◌}
 use Rattle.shape.specs.Points.{Point}
 use Rattle.shape.specs.Normals.{dot}
 use Rattle.exact.specs.Vectors.{spatial}

@@ -1,6 +1,6 @@
 -- `exact::determinant::space_point` meets its contract: its numbers are those that stand side by side in the list.
 -- Assumes nothing.
-use Rattle.std.proofs.Common.{◌≡◌, ℕ, suc, ◌+◌, [], ◌∷◌, get_or, pos, ap, ◌∙◌, arith, w64, rules}
+use Rattle.std.proofs.Common.{◌≡◌, ℕ, suc, ◌+◌, [], ◌∷◌, get_or, pos, ap, ◌∙◌, arith, w64}
 use Rattle.algebra.proofs.Machine.{returned}
 use Rattle.exact.proofs.determinant.space_point.Goals as goal
 

@@ -1,5 +1,5 @@
 -- `exact::determinant::wide_sign_of` meets its contract: the sign of a sign is that sign. Assumes nothing.
-use Rattle.std.proofs.Common.{ap, ◌∙◌, w64, rules}
+use Rattle.std.proofs.Common.{ap, ◌∙◌, w64}
 use Rattle.algebra.proofs.Machine.{returned}
 use Rattle.shape.specs.Signs.{sign}
 use Rattle.wide.specs.Value.{value}

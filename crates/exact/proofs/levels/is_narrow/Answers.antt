@@ -1,5 +1,4 @@
 -- `exact::levels::is_narrow` meets its contract: all three components are asked. Assumes nothing.
-use Rattle.std.proofs.Common.{rules}
 use Rattle.exact.proofs.Holding.{says_read, says_sized}
 use Rattle.exact.proofs.levels.is_narrow.Goals as goal
 

@@ -1,5 +1,5 @@
 -- `exact::levels::is_small` meets its contract: the two ends are those of the size. Assumes nothing.
-use Rattle.std.proofs.Common.{to_z-of_z, rules}
+use Rattle.std.proofs.Common.{to_z-of_z}
 use Rattle.exact.proofs.Holding.{says_small}
 use Rattle.exact.proofs.levels.is_small.Goals as goal
 

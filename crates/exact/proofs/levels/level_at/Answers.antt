@@ -1,5 +1,5 @@
 -- `exact::levels::level_at` meets its contract: the plane and the normal are those of a, b and c. Assumes nothing.
-use Rattle.std.proofs.Common.{◌∙◌, rules}
+use Rattle.std.proofs.Common.{◌∙◌}
 use Rattle.exact.specs.Vectors.{spatial}
 use Rattle.exact.proofs.LevelLaws.{level_from_first}
 use Rattle.exact.proofs.levels.level_at.Goals as goal

@@ -1,5 +1,5 @@
 -- `exact::levels::level_of` meets its contract: the digit is that of the sign. Assumes nothing.
-use Rattle.std.proofs.Common.{sym, refl, ap, ◌∙◌, arith, w64, rules}
+use Rattle.std.proofs.Common.{sym, refl, ap, ◌∙◌, arith, w64}
 use Rattle.algebra.proofs.Machine.{returned}
 use Rattle.shape.specs.Signs.{sign, digit}
 use Rattle.exact.specs.SignNumbers.{sign_number}

@@ -1,6 +1,6 @@
 -- `exact::levels::level_over` meets its contract: an estimate that is far from zero has the sign of the side, and elsewhere the side is so small that its low word
 -- tells it. Assumes nothing.
-use Rattle.std.proofs.Common.{ℕ, ◌≤◌, sym, ◌∙◌, subst, rules}
+use Rattle.std.proofs.Common.{ℕ, ◌≤◌, sym, ◌∙◌, subst}
 use Rattle.estimates.specs.Doubles.{far_above, far_below}
 use Rattle.estimates.proofs.Told.{Told}
 use Rattle.exact.specs.Vectors.{spatial}

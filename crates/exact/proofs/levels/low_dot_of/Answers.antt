@@ -1,7 +1,6 @@
 -- `exact::levels::low_dot_of` meets its contract: the low words of three products add up to that of their sum. Assumes nothing.
 use Rattle.exact.proofs.Holding.{product_read}
 use Rattle.wide.proofs.LowWords.{sum_low}
-use Rattle.std.proofs.Common.{rules}
 use Rattle.exact.proofs.levels.low_dot_of.Goals as goal
 
 pub returns : goal.returns

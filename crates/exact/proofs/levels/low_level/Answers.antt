@@ -1,5 +1,5 @@
 -- `exact::levels::low_level` meets its contract: where the side is small, its low word tells it. Assumes nothing.
-use Rattle.std.proofs.Common.{ℤ, ap, ◌∙◌, subst, w64, rules}
+use Rattle.std.proofs.Common.{ℤ, ap, ◌∙◌, subst, w64}
 use Rattle.algebra.proofs.Machine.{returned}
 use Rattle.shape.specs.Points.{Point}
 use Rattle.shape.specs.Signs.{row, sign, digit}

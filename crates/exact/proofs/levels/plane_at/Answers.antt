@@ -1,5 +1,5 @@
 -- `exact::levels::plane_at` meets its contract: the plane of the three points as doubles. Assumes nothing.
-use Rattle.std.proofs.Common.{◌∙◌, rules}
+use Rattle.std.proofs.Common.{◌∙◌}
 use Rattle.estimates.specs.Doubles.{plane_of}
 use Rattle.exact.proofs.levels.plane_at.Goals as goal
 

@@ -1,5 +1,4 @@
 -- `plane::meeting::corner_in` meets its contract: its two tests are those of the decision, in their order. Assumes nothing.
-use borrow.Author.Rules.{rules}
 use mathlib.Core.Path.{refl}
 use Rattle.exact.proofs.Branches.{if_taken, if_left, opposite}
 use Rattle.plane.proofs.meeting.corner_in.Goals as goal

@@ -1,5 +1,4 @@
 -- `plane::meeting::last_edges` meets its contract: its two tests are those of the decision, in their order. Assumes nothing.
-use borrow.Author.Rules.{rules}
 use mathlib.Core.Path.{refl}
 use Rattle.exact.proofs.Branches.{if_taken, if_left, opposite}
 use Rattle.plane.proofs.meeting.last_edges.Goals as goal

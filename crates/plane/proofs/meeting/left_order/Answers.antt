@@ -1,5 +1,4 @@
 -- `plane::meeting::left_order` meets its contract: where the corners turn right, the last two trade places. Assumes nothing.
-use borrow.Author.Rules.{rules}
 use mathlib.Core.Path.{refl}
 use Rattle.exact.proofs.Branches.{if_taken, if_left}
 use Rattle.plane.proofs.meeting.left_order.Goals as goal

@@ -1,5 +1,4 @@
 -- `plane::meeting::past_two` meets its contract: each answer is read off the tests that led to it. Assumes nothing.
-use borrow.Author.Rules.{rules}
 use mathlib.Core.Path.{refl}
 use Rattle.exact.proofs.Branches.{if_taken, if_left, opposite}
 use Rattle.plane.proofs.meeting.past_two.Goals as goal

@@ -1,6 +1,5 @@
 -- `plane::meeting::planes_meet` meets its contract: both triangles are put in left-turn order and the second is sorted, as the decision
 -- does it. Assumes nothing.
-use borrow.Author.Rules.{rules}
 use Rattle.plane.proofs.PlaneLaws.{sized_ordered, triangles_none, triangles_one, triangles_two}
 use Rattle.plane.proofs.meeting.planes_meet.Goals as goal
 

@@ -1,6 +1,5 @@
 -- `plane::meeting::right_of` meets its contract: the turn that it reads is below zero where the point is strictly right.
 -- Assumes nothing.
-use borrow.Author.Rules.{rules}
 use mathlib.Core.Path.{ap}
 use lib.Signed.{lt_z}
 use lib.IntN.{ℤ, pos}

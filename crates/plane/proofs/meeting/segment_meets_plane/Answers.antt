@@ -1,6 +1,5 @@
 -- `plane::meeting::segment_meets_plane` meets its contract: the triangle is put in left-turn order and sorted, as the decision does it.
 -- Assumes nothing.
-use borrow.Author.Rules.{rules}
 use Rattle.exact.specs.Vectors.{planar}
 use Rattle.plane.proofs.PlaneLaws.{sized_ordered, segment_none, segment_one, segment_two}
 use Rattle.plane.proofs.meeting.segment_meets_plane.Goals as goal

@@ -1,6 +1,5 @@
 -- `plane::meeting::sorted_by` meets its contract: the triangle is turned as the decision turns it, by the signs of the point against its
 -- edges. Assumes nothing.
-use borrow.Author.Rules.{rules}
 use mathlib.Core.Path.{refl, ap, ◌∙◌}
 use Rattle.plane.specs.Planes.{turned_once, of_corners}
 use Rattle.exact.proofs.Branches.{if_taken, if_left}

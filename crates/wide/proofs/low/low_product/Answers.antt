@@ -1,5 +1,5 @@
 -- `wide::low::low_product` meets its contract: no product of halves overflows, and what is joined of them is the low word of the product. Assumes nothing.
-use Rattle.std.proofs.Common.{w64, of_z, rules}
+use Rattle.std.proofs.Common.{w64, of_z}
 use Rattle.wide.proofs.Halves.{low_cast}
 use Rattle.wide.proofs.LowWords.{upper, halves_fit, product_low}
 use Rattle.wide.proofs.low.low_product.Goals as goal

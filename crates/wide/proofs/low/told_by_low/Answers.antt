@@ -1,5 +1,5 @@
 -- `wide::low::told_by_low` meets its contract: the word is the number from zero on, and below zero what is missing from 2^64 on. Assumes nothing.
-use Rattle.std.proofs.Common.{arith, rules}
+use Rattle.std.proofs.Common.{arith}
 use Rattle.wide.proofs.LowWords.{read_low, high_fits, read_below}
 use Rattle.wide.proofs.low.told_by_low.Goals as goal
 
