@@ -10,12 +10,12 @@ use borrow.Author.Rules.{rules}
 use Rattle.inside.proofs.corners.odd_ahead.Goals as goal
 
 pub loop-i-init : goal.loop-i-init
-loop-i-init c = (search rules, odd_none _ _)
+loop-i-init c = (search rules, odd_none (spatial c.args.p) c.args.triangles.now)
 
 pub loop-i-preserved : goal.loop-i-preserved
 loop-i-preserved c =
     let l = c.loop-i in
-    (search rules, odd_more _ _ l.i l.invariant.1 c.listed_ahead.ensures c.odd_with-odd.ensures)
+    (search rules, odd_more (spatial c.args.p) c.args.triangles.now l.i l.invariant.1 c.listed_ahead.ensures c.odd_with-odd.ensures)
 
 pub returns : goal.returns
 returns c =

@@ -10,7 +10,7 @@ use borrow.Author.Rules.{rules}
 use Rattle.inside.proofs.corners.odd_ahead.Given as goal
 
 abbrev pub invariant-loop-i : goal.invariant-loop-i
-invariant-loop-i l = (l.i ≤ l.many) × (l.initial.i ≡ odd_ahead (spatial l.p) (triangles_in l.i l.triangles))
+invariant-loop-i l = (l.i ≤ l.many) × (l.odd ≡ odd_ahead (spatial l.p) (triangles_in l.i l.triangles))
 
 abbrev pub decreases-loop-i : goal.decreases-loop-i
 decreases-loop-i l = l.many - l.i

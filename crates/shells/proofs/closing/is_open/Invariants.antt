@@ -15,9 +15,13 @@ use Rattle.shells.proofs.Opening.{open_says}
 use borrow.Author.Rules.{rules}
 use Rattle.shells.proofs.closing.is_open.Given as goal
 
+-- Whether a triangle has an open edge among the edges of the first so many.
+abbrev pub has_open : ℕ → List ℤ → Shape → Bool
+has_open many numbers P = some (edge_open (triangles_in many numbers)) (edges_of P)
+
 abbrev pub invariant-loop-i : goal.invariant-loop-i
 invariant-loop-i l =
-    (l.i ≤ l.many) × (some (hasOpen l.many l.numbers) (triangles_in l.i l.numbers) ≡ false)
+    (l.i ≤ l.many) × (some (has_open l.many l.numbers) (triangles_in l.i l.numbers) ≡ false)
 
 abbrev pub decreases-loop-i : goal.decreases-loop-i
 decreases-loop-i l = l.many - l.i

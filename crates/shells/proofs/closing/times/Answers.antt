@@ -11,7 +11,9 @@ use borrow.Author.Rules.{rules}
 use Rattle.shells.proofs.closing.times.Goals as goal
 
 pub loop-i-init : goal.loop-i-init
-loop-i-init c = (search rules, search rules, times_none _ _)
+loop-i-init c =
+    let a = c.args in
+    (search rules, search rules, times_none (point_at 3 a.a a.numbers.now, point_at 3 a.b a.numbers.now) a.numbers.now)
 
 pub overflow_add-n : goal.overflow_add-n
 overflow_add-n c =
@@ -21,8 +23,9 @@ overflow_add-n c =
 pub loop-i-preserved : goal.loop-i-preserved
 loop-i-preserved c =
     let l = c.loop-i in
+    let a = c.args in
     let most = c.listed_times-n.ensures.0 in
-    (search rules, search (rules, most), times_more _ _ l.i l.invariant.2 c.listed_times-n.ensures.1)
+    (search rules, search (rules, most), times_more (point_at 3 a.a a.numbers.now, point_at 3 a.b a.numbers.now) a.numbers.now l.i l.invariant.2 c.listed_times-n.ensures.1)
 
 pub returns : goal.returns
 returns c =

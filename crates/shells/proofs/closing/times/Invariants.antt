@@ -12,7 +12,7 @@ use Rattle.shells.proofs.closing.times.Given as goal
 
 abbrev pub invariant-loop-i : goal.invariant-loop-i
 invariant-loop-i l =
-    (l.i ≤ l.many) × (l.initial.i ≤ 3 * l.i) × (l.initial.i ≡ occurs (point_at 3 l.a l.numbers, point_at 3 l.b l.numbers) (held_by edges_of (triangles_in l.i l.numbers)))
+    (l.i ≤ l.many) × (l.n ≤ 3 * l.i) × (l.n ≡ occurs (point_at 3 l.a l.numbers, point_at 3 l.b l.numbers) (held_by edges_of (triangles_in l.i l.numbers)))
 
 abbrev pub decreases-loop-i : goal.decreases-loop-i
 decreases-loop-i l = l.many - l.i

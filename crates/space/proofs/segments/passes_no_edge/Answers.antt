@@ -6,24 +6,6 @@ use Rattle.exact.proofs.LevelLaws.{estimate_told, level_from_first}
 use Rattle.space.proofs.SegmentLaws.{past_told, past_by_levels}
 use Rattle.space.proofs.segments.passes_no_edge.Goals as goal
 
--- The planes before the estimates, and what is known at the start.
-abbrev planes : tie.Else1 → tie.After-plane-at2
-planes c = c.before.before.before.before.before.before.before.before.before.before.before
-
-abbrev start : tie.Else1 → tie.Start
-start c = (planes c).before.before
-
--- The two planes have the normals.
-first-plane : (c : tie.After-normal-at) → PlaneThrough (spatial (start c.before).args.p) (spatial c.normal_at.result) (planes c.before).before.plane_at.result
-first-plane c =
-    let pre = (start c.before).requires in
-    record { b = _; c = _; sized_b = pre.1; sized_c = pre.2.at_p; is = (planes c.before).before.plane_at.ensures; normal_is = c.normal_at.ensures.0 }
-
-second-plane : (c : tie.After-normal-at2) → PlaneThrough (spatial (start c.before.before).args.p) (spatial c.normal-at2.result) (planes c.before.before).plane-at2.result
-second-plane c =
-    let pre = (start c.before.before).requires in
-    record { b = _; c = _; sized_b = pre.1; sized_c = pre.2.at_q; is = (planes c.before.before).plane-at2.ensures; normal_is = c.normal-at2.ensures.0 }
-
 pub returns-then-is_sure : goal.returns-then-is_sure
 returns-then-is_sure c =
     let pre = c.requires in
@@ -42,32 +24,45 @@ returns-then-is_sure c =
 
 pub normal_at-n-requires : goal.normal_at-n-requires
 normal_at-n-requires c =
-    let pre = (start c).requires in
+    let pre = c.requires in
     (pre.0, pre.1, pre.2.at_q)
 
+-- The two planes have the normals.
 pub level_over-i-requires : goal.level_over-i-requires
 level_over-i-requires c =
-    let pre = (start c).requires in
-    (pre.0, c.normal_at-m.ensures.1, pre.2.at_q, first-plane c)
+    let pre = c.requires in (
+      pre.0,
+      c.normal_at-m.ensures.1,
+      pre.2.at_q,
+      record { b = _; c = _; sized_b = pre.1; sized_c = pre.2.at_p; is = c.plane_at-f.ensures; normal_is = c.normal_at-m.ensures.0 },
+    )
 
 pub level_over-j-requires : goal.level_over-j-requires
 level_over-j-requires c =
-    let pre = (start c).requires in
-    (pre.0, c.normal_at-m.ensures.1, pre.2.at_r, first-plane c)
+    let pre = c.requires in (
+      pre.0,
+      c.normal_at-m.ensures.1,
+      pre.2.at_r,
+      record { b = _; c = _; sized_b = pre.1; sized_c = pre.2.at_p; is = c.plane_at-f.ensures; normal_is = c.normal_at-m.ensures.0 },
+    )
 
 pub level_over-k-requires : goal.level_over-k-requires
 level_over-k-requires c =
-    let pre = (start c).requires in
-    (pre.0, c.normal_at-n.ensures.1, pre.2.at_r, second-plane c)
+    let pre = c.requires in (
+      pre.0,
+      c.normal_at-n.ensures.1,
+      pre.2.at_r,
+      record { b = _; c = _; sized_b = pre.1; sized_c = pre.2.at_q; is = c.plane_at-g.ensures; normal_is = c.normal_at-n.ensures.0 },
+    )
 
 pub returns : goal.returns
 returns c =
-    let a = (start c).args in
+    let a = c.args in
     let p = spatial a.p in
     let q = spatial a.q in
     let t = a.t in
-    let m-is = c.normal_at-m.ensures.0 in
+    let m_is = c.normal_at-m.ensures.0 in
     past_by_levels p q (spatial t.p) (spatial t.q) (spatial t.r)
-    (c.level_over-i.ensures.0 ∙ level_from_first p q (spatial t.p) (spatial t.q) m-is)
-    (c.level_over-j.ensures.0 ∙ level_from_first p q (spatial t.p) (spatial t.r) m-is)
+    (c.level_over-i.ensures.0 ∙ level_from_first p q (spatial t.p) (spatial t.q) m_is)
+    (c.level_over-j.ensures.0 ∙ level_from_first p q (spatial t.p) (spatial t.r) m_is)
     (c.level_over-k.ensures.0 ∙ level_from_first p q (spatial t.q) (spatial t.r) c.normal_at-n.ensures.0)

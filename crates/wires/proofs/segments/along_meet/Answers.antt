@@ -1,7 +1,6 @@
 -- `wires::segments::along_meet` meets its contract: coordinate by coordinate, z first. Assumes nothing.
 use borrow.Author.Rules.{rules}
 use mathlib.Core.Path.{refl}
-use borrow.Author.Tests.{not-true, not-false}
 use Rattle.shape.specs.WireTest.{stretches_meet}
 use Rattle.exact.proofs.Branches.{if_taken, if_left, as_it_is}
 use Rattle.wires.proofs.WireLaws.{along_read}
@@ -9,15 +8,15 @@ use Rattle.wires.proofs.segments.along_meet.Goals as goal
 
 pub returns-then-not-stretches_meet : goal.returns-then-not-stretches_meet
 returns-then-not-stretches_meet c =
-    if_left _ _ (along_read stretches_meet c.requires 2 c.stretches_meet.ensures) (not-true _ c.if-not-stretches_meet.true) refl
+    if_left _ _ (along_read stretches_meet c.requires 2 c.stretches_meet.ensures) c.if-not-stretches_meet.true refl
 
 pub returns-then-not-stretches_meet-2 : goal.returns-then-not-stretches_meet-2
 returns-then-not-stretches_meet-2 c =
-    if_taken _ _ (along_read stretches_meet c.requires 2 c.stretches_meet.ensures) (not-false _ c.if-not-stretches_meet.false)
-    (if_left _ _ (along_read stretches_meet c.requires 1 c.stretches_meet-2.ensures) (not-true _ c.if-not-stretches_meet-2.true) refl)
+    if_taken _ _ (along_read stretches_meet c.requires 2 c.stretches_meet.ensures) c.if-not-stretches_meet.false
+    (if_left _ _ (along_read stretches_meet c.requires 1 c.stretches_meet-2.ensures) c.if-not-stretches_meet-2.true refl)
 
 pub returns : goal.returns
 returns c =
-    if_taken _ _ (along_read stretches_meet c.requires 2 c.stretches_meet.ensures) (not-false _ c.if-not-stretches_meet.false)
-    (if_taken _ _ (along_read stretches_meet c.requires 1 c.stretches_meet-2.ensures) (not-false _ c.if-not-stretches_meet-2.false)
+    if_taken _ _ (along_read stretches_meet c.requires 2 c.stretches_meet.ensures) c.if-not-stretches_meet.false
+    (if_taken _ _ (along_read stretches_meet c.requires 1 c.stretches_meet-2.ensures) c.if-not-stretches_meet-2.false
     (as_it_is (along_read stretches_meet c.requires 0 c.stretches_meet-3.ensures)))

@@ -2,12 +2,11 @@
 -- nothing.
 use borrow.Author.Rules.{rules}
 use mathlib.Core.Path.{refl}
-use borrow.Author.Tests.{not-true, not-false}
 use Rattle.exact.proofs.Branches.{if_taken, if_left, if_equal, if_different}
 use Rattle.wires.proofs.segments.segments_meet.Goals as goal
 
 pub returns-then-not-along_meet : goal.returns-then-not-along_meet
-returns-then-not-along_meet c = if_left _ _ c.along_meet.ensures (not-true _ c.if-not-along_meet.true) refl
+returns-then-not-along_meet c = if_left _ _ c.along_meet.ensures c.if-not-along_meet.true refl
 
 pub level_at-requires : goal.level_at-requires
 level_at-requires c =
@@ -16,10 +15,10 @@ level_at-requires c =
 
 pub returns-then-level_at-eq1 : goal.returns-then-level_at-eq1
 returns-then-level_at-eq1 c =
-    if_taken _ _ c.along_meet.ensures (not-false _ c.if-not-along_meet.false)
+    if_taken _ _ c.along_meet.ensures c.if-not-along_meet.false
     (if_equal 1 _ _ c.level_at.ensures.0 c.if-level_at-eq1.true c.all_shadows_meet.ensures)
 
 pub returns : goal.returns
 returns c =
-    if_taken _ _ c.along_meet.ensures (not-false _ c.if-not-along_meet.false)
+    if_taken _ _ c.along_meet.ensures c.if-not-along_meet.false
     (if_different 1 _ _ c.level_at.ensures.0 c.if-level_at-eq1.false refl)
