@@ -17,23 +17,23 @@ use Rattle.kernel.proofs.kinds.is_flat.Goals as goal
 
 -- the list of a triangle of the kind that was found
 
-ready-as : {kind other : Kind} (l : List ℤ) → kind ≡ other → Ready (3 * coordinates_of kind) l → Ready (3 * coordinates_of other) l
-ready-as l e = subst (λ (k : Kind). Ready (3 * coordinates_of k) l) e
+ready_as : {kind other : Kind} (l : List ℤ) → kind ≡ other → Ready (3 * coordinates_of kind) l → Ready (3 * coordinates_of other) l
+ready_as l e = subst (λ (k : Kind). Ready (3 * coordinates_of k) l) e
 
 abbrev flatAs : Kind → List ℤ → Bool
 flatAs kind l = is_flat (coordinates_of kind) (points_at (coordinates_of kind) 3 0 l)
 
 pub turn_of-requires : goal.turn_of-requires
 turn_of-requires c =
-    ready-as c.args.numbers.now c.in-PlaneTriangle.is c.requires
+    ready_as c.args.numbers.now c.in-PlaneTriangle.is c.requires
 
 pub space_triangle-requires : goal.space_triangle-requires
 space_triangle-requires c =
-    ready-as c.args.numbers.now c.in-SpaceTriangle.is c.requires
+    ready_as c.args.numbers.now c.in-SpaceTriangle.is c.requires
 
 pub normal_of-requires : goal.normal_of-requires
 normal_of-requires c =
-    sized_triangle (ready-as c.args.numbers.now c.in-SpaceTriangle.is c.requires) c.space_triangle.ensures
+    sized_triangle (ready_as c.args.numbers.now c.in-SpaceTriangle.is c.requires) c.space_triangle.ensures
 
 pub is_null-requires : goal.is_null-requires
 is_null-requires c = c.normal_of.ensures.small

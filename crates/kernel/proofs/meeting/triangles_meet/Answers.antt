@@ -20,9 +20,9 @@ meet_by_standings-requires c =
       p.1,
       no_flag,
       record {
-        c = c.standing_to-r.ensures;
+        second = c.standing_to-r.ensures;
         near_first = c.if-r-eq0.false;
-        c = λ r1. c.standing_to-s.ensures;
+        first = λ r1. c.standing_to-s.ensures;
         near_second = λ r1. c.if-s-eq0.false;
       },
     )
