@@ -12,6 +12,7 @@ use Rattle.checks.specs.Grid.{on_grid}
 use Rattle.exact.proofs.Branches.{if_taken, if_left}
 use Rattle.checks.proofs.GridLaws.{tested_off, tested_on}
 use Rattle.checks.proofs.grid.all_on.Goals as goal
+use Rattle.checks.proofs.grid.all_on.Goals.{then-off_grid, else-off_grid}
 
 -- one number more
 one_more : (test : ℕ → Bool) (i : ℕ) → cond (test i) (all_below i test) false ≡ all_below (i + 1) test
@@ -21,10 +22,13 @@ pub loop-i-preserved : goal.loop-i-preserved
 loop-i-preserved c =
     let z = get_or c.args.numbers.now c.loop-i.i (pos 0) in (
       search rules,
-      ⊎_elim
-          (λ came. if_left _ _ (sym (tested_off z c.off_grid-arg-1.given c.off_grid.result c.off_grid.ensures came.0.taken)) refl came.1)
-          (λ came. if_taken _ _ (sym (tested_on z c.off_grid-arg-1.given c.off_grid.result c.off_grid.ensures came.0.left)) refl (came.1 ∙ c.loop-i.invariant.1))
-          c.if-off_grid.branch
+      elim c.if-off_grid.branch [
+        then-off_grid w ↦
+            w.on-is ∙ if_left _ _ (sym (tested_off z c.off_grid-arg-1.given c.off_grid.result c.off_grid.ensures w.if-off_grid.true)) refl refl
+      | else-off_grid w ↦
+            w.on-is
+            ∙ if_taken _ _ (sym (tested_on z c.off_grid-arg-1.given c.off_grid.result c.off_grid.ensures w.if-off_grid.false)) refl c.loop-i.invariant.1
+      ]
           ∙ one_more (λ k. on_grid (get_or c.args.numbers.now k (pos 0))) c.loop-i.i,
     )
 

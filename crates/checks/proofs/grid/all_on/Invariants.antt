@@ -14,7 +14,7 @@ use Rattle.checks.proofs.GridLaws.{tested_off, tested_on}
 use Rattle.checks.proofs.grid.all_on.Given as goal
 
 abbrev pub invariant-loop-i : goal.invariant-loop-i
-invariant-loop-i l = (l.i ≤ length l.numbers) × (l.initial.i ≡ all_below l.i (λ k. on_grid (get_or l.numbers k (pos 0))))
+invariant-loop-i l = (l.i ≤ length l.numbers) × (l.on ≡ all_below l.i (λ k. on_grid (get_or l.numbers k (pos 0))))
 
 abbrev pub decreases-loop-i : goal.decreases-loop-i
 decreases-loop-i l = length l.numbers - l.i

@@ -13,7 +13,7 @@ loop-n-init c = (search rules, search rules, refl)
 pub loop-n-preserved : goal.loop-n-preserved
 loop-n-preserved c =
     let l = c.loop-n in
-    let old = c.args.t1 in
+    let old = c.args.old in
     let new = drop 1 old ++ (blank ∷ []) in
     let long : length old ≡ 32 = search rules in
     let tail : length (drop 1 old) ≡ 31 = simp length-drop (omega arith) in
@@ -33,7 +33,7 @@ loop-n-preserved c =
 pub returns : goal.returns
 returns c =
     let l = c.loop-n in
-    let old = c.args.t1 in
+    let old = c.args.old in
     let new = drop 1 old ++ (blank ∷ []) in
     let long : length old ≡ 32 = search rules in
     let tail : length (drop 1 old) ≡ 31 = simp length-drop (omega arith) in

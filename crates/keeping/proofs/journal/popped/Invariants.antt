@@ -8,7 +8,7 @@ use Rattle.keeping.proofs.Past.{unread}
 use Rattle.keeping.proofs.journal.popped.Given as goal
 
 abbrev pub invariant-loop-n : goal.invariant-loop-n
-invariant-loop-n l = (l.n ≤ 31) × (length l.initial.n ≡ 32) × (l.initial.n ≡ over l.old (drop 1 l.old ++ (blank ∷ [])) l.n)
+invariant-loop-n l = (l.n ≤ 31) × (length l.journal ≡ 32) × (l.journal ≡ over l.old (drop 1 l.old ++ (blank ∷ [])) l.n)
 
 abbrev pub decreases-loop-n : goal.decreases-loop-n
 decreases-loop-n l = 31 - l.n

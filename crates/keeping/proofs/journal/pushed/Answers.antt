@@ -8,7 +8,7 @@ use Rattle.keeping.proofs.journal.pushed.Goals as goal
 
 pub loop-n-init : goal.loop-n-init
 loop-n-init c =
-    let old = c.args.t1 in
+    let old = c.args.old in
     let latest = c.args.latest in
     let long : length old ≡ 32 = search rules in (
       search rules,
@@ -20,7 +20,7 @@ loop-n-init c =
 pub loop-n-preserved : goal.loop-n-preserved
 loop-n-preserved c =
     let l = c.loop-n in
-    let old = c.args.t1 in
+    let old = c.args.old in
     let new = get_or (set old 0 c.args.latest) 0 blank ∷ old in
     let long : length old ≡ 32 = search rules in
     let at : 1 + l.n ≡ suc l.n = omega arith in (
@@ -34,7 +34,7 @@ loop-n-preserved c =
 pub returns : goal.returns
 returns c =
     let l = c.loop-n in
-    let old = c.args.t1 in
+    let old = c.args.old in
     let latest = c.args.latest in
     let new = get_or (set old 0 latest) 0 blank ∷ old in
     let long : length old ≡ 32 = search rules in

@@ -7,7 +7,7 @@ use Rattle.keeping.proofs.Past.{unread}
 use Rattle.keeping.proofs.journal.pushed.Given as goal
 
 abbrev pub invariant-loop-n : goal.invariant-loop-n
-invariant-loop-n l = (l.n ≤ 31) × (length l.initial.n ≡ 32) × (l.initial.n ≡ over l.old (get_or l.initial.journal 0 blank ∷ l.old) (suc l.n))
+invariant-loop-n l = (l.n ≤ 31) × (length l.journal ≡ 32) × (l.journal ≡ over l.old (get_or l.initial.journal 0 blank ∷ l.old) (suc l.n))
 
 abbrev pub decreases-loop-n : goal.decreases-loop-n
 decreases-loop-n l = 31 - l.n

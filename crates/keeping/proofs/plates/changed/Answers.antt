@@ -10,15 +10,15 @@ use Rattle.keeping.proofs.plates.changed.Goals as goal
 
 pub slice_bounds-copy_numbers-end-2 : goal.slice_bounds-copy_numbers-end-2
 slice_bounds-copy_numbers-end-2 c =
-    let long : length c.args.t1.coords ≡ 576 = search rules in
+    let long : length c.args.plate.coords ≡ 576 = search rules in
     omega (arith, c.requires.0, long)
 
 pub returns : goal.returns
 returns c = record {
   is = λ {S} {j} {k} x h fit mark numbers.
       let i = c.args.slot in
-      let stood = c.copy_numbers.ensures ∙ part (9 * i) 9 c.args.t1.coords ∙ numbers_are h.slots i c.requires.0 in
-      let kept : entry 1 i (get_or c.args.t1.parts i 0) c.copy_numbers.new.0 ≡ slot_entry i (get_or S i free) =
+      let stood = c.copy_numbers.ensures ∙ part (9 * i) 9 c.args.plate.coords ∙ numbers_are h.slots i c.requires.0 in
+      let kept : entry 1 i (get_or c.args.plate.parts i 0) c.copy_numbers.new.target ≡ slot_entry i (get_or S i free) =
       λ n. entry 1 i (mark_is h.slots i n) (stood n) in
       let noted = c.noted in
       let before = subst (λ (e : Entry). Shows S (e ∷ take 31 j) (min 32 (suc k)) noted.result) kept (noted.ensures.is h) in

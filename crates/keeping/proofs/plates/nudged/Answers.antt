@@ -20,11 +20,11 @@ returns c = record {
       } in
       let less = c.part_clashes-less.ensures S h.slots ∙ ap (λ (n : ℕ). cross n S S) mark in
       let more = c.part_clashes-more.ensures M shown ∙ ap (λ (n : ℕ). cross n M M) mark in
-      let rest = c.wrapping_sub_u32-rest.ensures ∙ h.count in
+      let rest = c.wrapping_sub_u32-rest.ensures.value ∙ h.count in
       record {
         slots = shown;
         journal = h.journal;
         reach = h.reach;
-        count = move_count q by S _ _ _ _ h.slots.fit.long less more rest (search rules) c.wrapping_add_u32-count.ensures;
+        count = move_count q by S _ _ _ _ h.slots.fit.long less more rest (search rules) c.wrapping_add_u32-count.ensures.value;
       };
 }

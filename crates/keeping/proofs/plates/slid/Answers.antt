@@ -11,9 +11,9 @@ returns c = record {
   is = λ {S} {j} {k} q h mark fit.
       let a = c.args in
       let noted = c.noted in
-      let kept : entry 2 0 a.mark a.t3 ≡ entry 2 0 (suc q) a.t3 = λ n. entry 2 0 (mark n) a.t3 in
-      let moved : Nudged noted.result a.mark a.t3 c.nudged.result =
-      subst (λ (by : List ℤ). Nudged noted.result a.mark by c.nudged.result) (steps_forth a.t3) c.nudged.ensures in
+      let kept : entry 2 0 a.mark a.by ≡ entry 2 0 (suc q) a.by = λ n. entry 2 0 (mark n) a.by in
+      let moved : Nudged noted.result a.mark a.by c.nudged.result =
+      subst (λ (by : List ℤ). Nudged noted.result a.mark by c.nudged.result) (steps_forth a.by) c.nudged.ensures in
       let before = subst (λ (e : Entry). Shows S (e ∷ take 31 j) (min 32 (suc k)) noted.result) kept (noted.ensures.is h) in
       moved.is q before mark fit;
 }

@@ -5,21 +5,22 @@ use Rattle.slots.proofs.Counts.{write_count}
 use Rattle.slots.proofs.Arrays.{length_put, coords_written, write_shown}
 use Rattle.keeping.proofs.plates.written.Goals as goal
 
-coords-576 : (s : tie.Start) → length s.args.plate.coords ≡ 576
-coords-576 s = search rules
-
 pub slice_bounds-coords-end : goal.slice_bounds-coords-end
 slice_bounds-coords-end c =
-    omega (arith, c.requires.0, coords-576 c)
+    let coords-576 : length c.args.plate.coords ≡ 576 = search rules in
+    omega (arith, c.requires.0, coords-576)
 
 pub slice_bounds-slot_clashes-end-3 : goal.slice_bounds-slot_clashes-end-3
 slice_bounds-slot_clashes-end-3 c =
+    let coords-576 : length c.args.plate.coords ≡ 576 = search rules in
     let long = ap length c.copy_numbers.ensures ∙ c.requires.1 in
-    sym (length_put c.args.slot c.args.plate.coords c.copy_numbers.new.0 c.requires.0 (coords-576 c) long)
+    sym (length_put c.args.slot c.args.plate.coords c.copy_numbers.new.target c.requires.0 coords-576 long)
 
 pub slot_clashes-more-requires : goal.slot_clashes-more-requires
 slot_clashes-more-requires c =
-    (sym (slice_bounds-slot_clashes-end-3 c), search rules, search rules)
+    let coords-576 : length c.args.plate.coords ≡ 576 = search rules in
+    let long = ap length c.copy_numbers.ensures ∙ c.requires.1 in
+    (length_put c.args.slot c.args.plate.coords c.copy_numbers.new.target c.requires.0 coords-576 long, search rules, search rules)
 
 pub returns : goal.returns
 returns c = record {
@@ -29,11 +30,11 @@ returns c = record {
       let shown = write_shown h.slots i x fit mark (coords_written h.slots i x (9 * i + 9 - 9 * i) c.requires.0 (omega arith) new) in
       let less = c.slot_clashes-less.ensures S h.slots in
       let more = c.slot_clashes-more.ensures (set S i x) shown in
-      let rest = c.wrapping_sub_u32-rest.ensures ∙ h.count in
+      let rest = c.wrapping_sub_u32-rest.ensures.value ∙ h.count in
       record {
         slots = shown;
         journal = h.journal;
         reach = h.reach;
-        count = write_count S i x _ _ _ _ h.slots.fit.long c.requires.0 less more rest (search rules) c.wrapping_add_u32-count.ensures;
+        count = write_count S i x _ _ _ _ h.slots.fit.long c.requires.0 less more rest (search rules) c.wrapping_add_u32-count.ensures.value;
       };
 }

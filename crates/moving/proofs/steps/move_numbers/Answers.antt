@@ -19,11 +19,8 @@ use Rattle.checks.specs.Grid.{on_grid, all_on}
 use Rattle.checks.proofs.GridLaws.{all_on_says}
 use Rattle.moving.specs.Moves.{step, steps}
 use Rattle.moving.proofs.MoveLaws.{length_moved, moved_at, steps_long, sum_read}
+use Rattle.moving.proofs.steps.move_numbers.Invariants.{out}
 use Rattle.moving.proofs.steps.move_numbers.Goals as goal
-
--- the list that is to come out
-abbrev out : List ℤ → List ℤ → Bool → List ℤ
-out numbers by back = moved (steps back by) numbers
 
 out-long : (numbers by : List ℤ) (back : Bool) → length by ≡ length numbers → length (out numbers by back) ≡ length numbers
 out-long numbers by back e = length_moved (steps back by) numbers (steps_long back by ∙ e)

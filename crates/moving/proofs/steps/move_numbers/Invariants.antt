@@ -21,10 +21,14 @@ use Rattle.moving.specs.Moves.{step, steps}
 use Rattle.moving.proofs.MoveLaws.{length_moved, moved_at, steps_long, sum_read}
 use Rattle.moving.proofs.steps.move_numbers.Given as goal
 
+-- the list that is to come out
+abbrev pub out : List ℤ → List ℤ → Bool → List ℤ
+out numbers by back = moved (steps back by) numbers
+
 abbrev pub invariant-loop-k : goal.invariant-loop-k
 invariant-loop-k l =
-    (l.k ≤ length l.initial.numbers) × (length l.initial.k ≡ length l.initial.numbers)
-    × (all_on (out l.initial.numbers l.numbers l.l.numbers) ≡ true → l.initial.k ≡ over l.initial.numbers (out l.initial.numbers l.numbers l.l.numbers) l.k)
+    (l.k ≤ length l.initial.numbers) × (length l.numbers ≡ length l.initial.numbers)
+    × (all_on (out l.initial.numbers l.by l.back) ≡ true → l.numbers ≡ over l.initial.numbers (out l.initial.numbers l.by l.back) l.k)
 
 abbrev pub decreases-loop-k : goal.decreases-loop-k
 decreases-loop-k l = length l.initial.numbers - l.k

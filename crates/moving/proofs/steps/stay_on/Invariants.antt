@@ -17,8 +17,12 @@ use Rattle.checks.specs.Grid.{on_grid}
 use Rattle.moving.proofs.MoveLaws.{length_moved, sum_read, sum_off, sum_on}
 use Rattle.moving.proofs.steps.stay_on.Given as goal
 
+-- whether number i stays
+abbrev pub stays : List ℤ → List ℤ → ℕ → Bool
+stays numbers by i = on_grid (get_or (moved by numbers) i (pos 0))
+
 abbrev pub invariant-loop-k : goal.invariant-loop-k
-invariant-loop-k l = (l.k ≤ length l.numbers) × (l.initial.k ≡ all_below l.k (stays l.numbers l.by))
+invariant-loop-k l = (l.k ≤ length l.numbers) × (l.on ≡ all_below l.k (stays l.numbers l.by))
 
 abbrev pub decreases-loop-k : goal.decreases-loop-k
 decreases-loop-k l = length l.numbers - l.k

@@ -15,5 +15,5 @@ returns-in-Refused c = sym (ap (λ (a : ValueAnswer). with_served sign (told_val
 
 pub returns-in-Valued : goal.returns-in-Valued
 returns-in-Valued c =
-    ap served (c.sign_of.ensures ∙ ap sign (to_z-of_z (sfits_of {w = w64} {z = c.in-Valued.z} c.known_told-in-Valued-1-own.given.0.1)))
+    ap served (c.sign_of.ensures ∙ ap sign (to_z-of_z (sfits_of {w = w64} {z = c.in-Valued.z} c.in-Valued.known_told-in-Valued-1-own.given.0.1)))
     ∙ sym (ap (λ (a : ValueAnswer). with_served sign (told_value a)) c.in-Valued.is)

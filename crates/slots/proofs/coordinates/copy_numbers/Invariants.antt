@@ -13,7 +13,7 @@ use Rattle.algebra.proofs.Copying.{over, over_more, over_all}
 use Rattle.slots.proofs.coordinates.copy_numbers.Given as goal
 
 abbrev pub invariant-loop-k : goal.invariant-loop-k
-invariant-loop-k l = (l.k ≤ length l.l.initial.k) × (length l.initial.k ≡ length l.l.initial.k) × (l.initial.k ≡ over l.initial.target l.l.initial.k l.k)
+invariant-loop-k l = (l.k ≤ length l.numbers) × (length l.target ≡ length l.numbers) × (l.target ≡ over l.initial.target l.numbers l.k)
 
 abbrev pub decreases-loop-k : goal.decreases-loop-k
-decreases-loop-k l = length l.l.initial.k - l.k
+decreases-loop-k l = length l.numbers - l.k

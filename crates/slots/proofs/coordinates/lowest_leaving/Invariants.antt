@@ -14,8 +14,7 @@ use Rattle.shape.proofs.ListLaws.{lowest_at, lowest_none}
 use Rattle.slots.proofs.coordinates.lowest_leaving.Given as goal
 
 abbrev pub invariant-loop-i : goal.invariant-loop-i
-invariant-loop-i l =
-    (l.i ≤ 64) × ((S : List Slot) (q : ℕ) → Shown S l.coords l.marks → l.mark ≡ suc q → (k : ℕ) → k < l.i → leaves q l.by (get_or S k free) ≡ false)
+invariant-loop-i l = (l.i ≤ 64) × ((S : List Slot) (q : ℕ) → Shown S l.coords l.marks → l.mark ≡ suc q → (k : ℕ) → k < l.i → leaves q l.by (get_or S k free) ≡ false)
 
 abbrev pub decreases-loop-i : goal.decreases-loop-i
 decreases-loop-i l = 64 - l.i

@@ -16,8 +16,8 @@ use Rattle.slots.proofs.coordinates.move_part.Given as goal
 
 abbrev pub invariant-loop-i : goal.invariant-loop-i
 invariant-loop-i l =
-    (l.i ≤ 64) × (length l.initial.i ≡ 576) × ((S : List Slot) (q : ℕ) → Shown S l.initial.coords l.coords → l.marks ≡ suc q → Fit (map (shifted q (steps l.l.mark l.mark)) S) →
-    l.initial.i ≡ flat (begun q (steps l.l.mark l.mark) S l.i))
+    (l.i ≤ 64) × (length l.coords ≡ 576) × ((S : List Slot) (q : ℕ) → Shown S l.initial.coords l.marks → l.mark ≡ suc q → Fit (map (shifted q (steps l.back l.by)) S) →
+    l.coords ≡ flat (begun q (steps l.back l.by) S l.i))
 
 abbrev pub decreases-loop-i : goal.decreases-loop-i
 decreases-loop-i l = 64 - l.i

@@ -12,7 +12,7 @@ use Rattle.slots.proofs.Counts.{cross_more, cross_all}
 use Rattle.slots.proofs.counting.clashes_all.Given as goal
 
 abbrev pub invariant-loop-i : goal.invariant-loop-i
-invariant-loop-i l = (l.i ≤ 64) × (l.initial.i ≤ 64 * l.i) × ((S : List Slot) → Shown S l.coords l.marks → l.initial.i ≡ cross l.mark (take l.i S) S)
+invariant-loop-i l = (l.i ≤ 64) × (l.n ≤ 64 * l.i) × ((S : List Slot) → Shown S l.coords l.marks → l.n ≡ cross l.mark (take l.i S) S)
 
 abbrev pub decreases-loop-i : goal.decreases-loop-i
 decreases-loop-i l = 64 - l.i

@@ -14,7 +14,7 @@ use Rattle.slots.proofs.Arrays.{mark_is}
 use Rattle.slots.proofs.counting.clashes_with.Given as goal
 
 abbrev pub invariant-loop-j : goal.invariant-loop-j
-invariant-loop-j l = (l.j ≤ 64) × (l.initial.j ≤ l.j) × ((S : List Slot) → Shown S l.coords l.marks → l.initial.j ≡ row (get_or S l.i free) (take l.j S))
+invariant-loop-j l = (l.j ≤ 64) × (l.n ≤ l.j) × ((S : List Slot) → Shown S l.coords l.marks → l.n ≡ row (get_or S l.i free) (take l.j S))
 
 abbrev pub decreases-loop-j : goal.decreases-loop-j
 decreases-loop-j l = 64 - l.j

@@ -14,8 +14,7 @@ use Rattle.shape.proofs.ListLaws.{some_at, some_none}
 use Rattle.slots.proofs.counting.marks_clash.Given as goal
 
 abbrev pub invariant-loop-i : goal.invariant-loop-i
-invariant-loop-i l =
-    (l.i ≤ 64) × ((S : List Slot) → Shown S l.coords l.marks → (k : ℕ) → k < l.i → slot_strikes l.first l.second S (get_or S k free) ≡ false)
+invariant-loop-i l = (l.i ≤ 64) × ((S : List Slot) → Shown S l.coords l.marks → (k : ℕ) → k < l.i → slot_strikes l.first l.second S (get_or S k free) ≡ false)
 
 abbrev pub decreases-loop-i : goal.decreases-loop-i
 decreases-loop-i l = 64 - l.i

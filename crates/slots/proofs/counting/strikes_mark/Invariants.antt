@@ -14,8 +14,7 @@ use Rattle.shape.proofs.ListLaws.{some_at, some_none}
 use Rattle.slots.proofs.counting.strikes_mark.Given as goal
 
 abbrev pub invariant-loop-j : goal.invariant-loop-j
-invariant-loop-j l =
-    (l.j ≤ 64) × ((S : List Slot) → Shown S l.coords l.marks → (k : ℕ) → k < l.j → strikes_if l.mark (get_or S l.i free) (get_or S k free) ≡ false)
+invariant-loop-j l = (l.j ≤ 64) × ((S : List Slot) → Shown S l.coords l.marks → (k : ℕ) → k < l.j → strikes_if l.mark (get_or S l.i free) (get_or S k free) ≡ false)
 
 abbrev pub decreases-loop-j : goal.decreases-loop-j
 decreases-loop-j l = 64 - l.j

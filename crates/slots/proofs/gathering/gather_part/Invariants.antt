@@ -15,8 +15,8 @@ use Rattle.slots.proofs.gathering.gather_part.Given as goal
 
 abbrev pub invariant-loop-i : goal.invariant-loop-i
 invariant-loop-i l =
-    (l.i ≤ 64) × (l.initial.i ≤ l.i) × Ready 576 l.l.initial.i
-    × ((S : List Slot) (q : ℕ) → Shown S l.coords l.marks → l.mark ≡ suc q → triangles_in l.initial.i l.l.initial.i ≡ triangles_of q (take l.i S))
+    (l.i ≤ 64) × (l.many ≤ l.i) × Ready 576 l.triangles
+    × ((S : List Slot) (q : ℕ) → Shown S l.coords l.marks → l.mark ≡ suc q → triangles_in l.many l.triangles ≡ triangles_of q (take l.i S))
 
 abbrev pub decreases-loop-i : goal.decreases-loop-i
 decreases-loop-i l = 64 - l.i
