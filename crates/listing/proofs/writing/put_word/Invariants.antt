@@ -16,7 +16,7 @@ use Rattle.listing.proofs.writing.put_word.Given as goal
 
 abbrev pub invariant-loop-rest : goal.invariant-loop-rest
 invariant-loop-rest l =
-    Filling (told l.out l.l.out l.from) l.initial.out (told l.out l.l.out l.initial.at) l.rest l.at
+    Filling (told l.i l.from l.word) l.initial.out (told l.i l.from l.rest) l.out l.at
 
 abbrev pub decreases-loop-rest : goal.decreases-loop-rest
-decreases-loop-rest l = l.initial.at
+decreases-loop-rest l = l.rest
