@@ -71,6 +71,7 @@ among_gathered {A} {a} f from (suc n) w = by_place (eq-or-lt_of_le w.least) (amo
         among_right (f from) (later (record { piece = w.piece; least = h; below = omega (arith, w.below); inside = w.inside }))
 
 gathered_among : {A : Type 0} {a : A} (f : ℕ → List A) (from n : ℕ) → Among a (gathered f from n) → Within a f from n
+gathered_among f from zero h = elim h [ ]
 gathered_among {A} {a} f from (suc n) h = by_part (among_either (f from) h) (gathered_among f (suc from) n)
   where
     by_part : Among a (f from) ⊎ Among a (gathered f (suc from) n) → (Among a (gathered f (suc from) n) → Within a f (suc from) n) →
@@ -83,6 +84,8 @@ gathered_among {A} {a} f from (suc n) h = by_part (among_either (f from) h) (gat
 -- ---- exactly the pairs that meet
 -- The one pair that may stand there does where the verdict is yes.
 among_if : (v : Bool) (i j : ℕ) (p : Pair) → Among p (pair_if v i j) → (v ≡ true) × (p.0 ≡ i) × (p.1 ≡ j)
+among_if false i j p h = elim h [ ]
+among_if true i j p (there h) = elim h [ ]
 among_if true i j p (here e) = (refl, ap (λ (q : Pair). q.0) e, ap (λ (q : Pair). q.1) e)
 
 module _ (meets : ℕ → ℕ → Bool) (m : ℕ) where

@@ -27,9 +27,9 @@ next_pair low i from zero h = absurd (omega arith)
 next_pair (lowest_here set gone same) i from (suc n) h =
     let start : from + 0 ≡ from = omega arith in
     rw (set, gone, same, start)
-next_pair (lowest_above {z = z} none gone low) i from (suc n) h =
+next_pair {word = word} {rest = rest} (lowest_above {z = z} none gone low) i from (suc n) h =
     let next : from + suc z ≡ suc from + z = omega arith in
-    rw (none, gone, next) (next_pair low i (suc from) n (omega arith))
+    rw (none, gone, next) (next_pair {z = z} {word = word / 2} {rest = rest / 2} low i (suc from) n (omega arith))
 
 -- A word of 0 tells none.
 pub no_more : (i from n : ℕ) → word_pairs i from n 0 ≡ []

@@ -37,7 +37,8 @@ rest_less {z} low = omega (arith, lowest_added low, pow_pos z)
 pub lowest_within : {z word rest : ℕ} → Lowest z word rest → (n : ℕ) → word < 2 ^ n → z < n
 lowest_within low zero small = absurd (omega (arith, rest_less low))
 lowest_within (lowest_here set gone same) (suc n) small = omega arith
-lowest_within (lowest_above none gone low) (suc n) small = omega (arith, lowest_within low n (omega arith))
+lowest_within {word = word} {rest = rest} (lowest_above {z = z} none gone low) (suc n) small =
+    omega (arith, lowest_within {z = z} {word = word / 2} {rest = rest / 2} low n (omega arith))
 
 -- ---- how code finds them
 pub lowest_taken : (n word : ℕ) → (word ≡ 0 → ⊥) → word < 2 ^ n → Lowest (count_trailing_zeros n word) word (bit_and word (word - 1))

@@ -8,4 +8,4 @@ pub returns : goal.returns
 returns c =
     let a = c.args in
     best_read smaller a.c a.corners.now c.smaller_of-arg-1.given c.smaller_of-arg-2-1.given c.smaller_of-arg-3-1.given
-    c.smaller_of.ok c.smaller_of-2.ok c.smaller_of.ensures c.smaller_of-2.ensures
+    c.smaller_of.type_inv c.smaller_of-2.type_inv c.smaller_of.ensures c.smaller_of-2.ensures

@@ -9,7 +9,7 @@ use Rattle.boxes.proofs.Rows.{Written, none_written, one_more}
 use Rattle.boxes.proofs.boxes.put_boxes.Given as goal
 
 abbrev pub invariant-loop-i : goal.invariant-loop-i
-invariant-loop-i l = Written 6 box_of l.l.initial.i l.initial.boxes l.initial.i l.i
+invariant-loop-i l = Written 6 box_of l.numbers l.initial.boxes l.boxes l.i
 
 abbrev pub decreases-loop-i : goal.decreases-loop-i
-decreases-loop-i l = l.numbers - l.i
+decreases-loop-i l = l.count - l.i

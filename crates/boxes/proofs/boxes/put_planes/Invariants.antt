@@ -9,7 +9,7 @@ use Rattle.boxes.proofs.Rows.{Written, lent_ready, none_written, one_more}
 use Rattle.boxes.proofs.boxes.put_planes.Given as goal
 
 abbrev pub invariant-loop-i : goal.invariant-loop-i
-invariant-loop-i l = Written 3 plane_row l.l.initial.i l.initial.planes l.initial.i l.i
+invariant-loop-i l = Written 3 plane_row l.numbers l.initial.planes l.planes l.i
 
 abbrev pub decreases-loop-i : goal.decreases-loop-i
-decreases-loop-i l = l.numbers - l.i
+decreases-loop-i l = l.count - l.i

@@ -17,14 +17,9 @@ use Rattle.shape.specs.Verdicts.{Says}
 use Rattle.shape.proofs.VerdictLaws.{says_yes, says_no, says_same}
 use Rattle.exact.specs.Small.{narrow, Narrow}
 use Rattle.boxes.proofs.BoxLaws.{read}
+use Rattle.boxes.proofs.narrow.is_narrow.Invariants.{SmallAt, SmallBefore}
 use Rattle.boxes.proofs.narrow.is_narrow.Goals as goal
-
-abbrev SmallAt : List ℤ → ℕ → Type 0
-SmallAt l k = nat_abs (get_or l k (pos 0)) ≤ narrow
-
--- The numbers before i are small.
-abbrev SmallBefore : List ℤ → ℕ → Type 0
-SmallBefore l i = (k : ℕ) → k < i → SmallAt l k
+use Rattle.boxes.proofs.narrow.is_narrow.Goals.{then-not-is_small, else-not-is_small}
 
 -- Past the end stands 0, which is small.
 all_small : (l : List ℤ) → SmallBefore l (length l) → Narrow l
@@ -51,13 +46,11 @@ pub loop-i-preserved : goal.loop-i-preserved
 loop-i-preserved c =
     let l = c.args.numbers.now in
     let i = c.loop-i.i in
-    let small = c.is_small.result in
     let says = stored (get_or l i (pos 0)) c.is_small-arg-1.given c.is_small.ensures in (
       search rules,
-      ⊎_elim
-          (λ came. down l i (says.no (not-true small came.0.taken)) came.1)
-          (λ came. stays l i (says.yes (not-false small came.0.left)) came.1 c.loop-i.invariant.1)
-          c.if-not-is_small.branch,
+      elim c.if-not-is_small.branch [
+        then-not-is_small w ↦ down l i (says.no w.if-not-is_small.true) w.narrow-is
+        | else-not-is_small w ↦ stays l i (says.yes w.if-not-is_small.false) w.narrow-is c.loop-i.invariant.1 ],
     )
 
 pub returns : goal.returns

@@ -13,7 +13,7 @@ use Rattle.deciding.proofs.deciding.decide_words.Given as goal
 
 abbrev pub invariant-loop-k : goal.invariant-loop-k
 invariant-loop-k l =
-    (l.k ≤ l.words) × (length l.l.initial.k ≡ length l.initial.words) × Decided l.first l.second l.l.initial.k l.k l.initial.k × ((j : ℕ) → l.k ≤ j → get_or l.l.initial.k j 0 ≡ get_or l.initial.words j 0)
+    (l.k ≤ l.end) × (length l.words ≡ length l.initial.words) × Decided l.first l.second l.words l.k l.found × ((j : ℕ) → l.k ≤ j → get_or l.words j 0 ≡ get_or l.initial.words j 0)
 
 abbrev pub decreases-loop-k : goal.decreases-loop-k
-decreases-loop-k l = l.words - l.k
+decreases-loop-k l = l.end - l.k

@@ -12,7 +12,7 @@ use Rattle.deciding.proofs.standings.stand_by_estimate.Given as goal
 
 abbrev pub invariant-loop-left : goal.invariant-loop-left
 invariant-loop-left l =
-    Sorting (SeemsAt l.standings l.step l.l.standings l.start l.l.step l.l.l.step) seems_alone is_open l.planes 0 0 l.initial.standings l.left l.initial.other l.other l.initial.left
+    Sorting (SeemsAt l.t l.u l.start l.step l.base l.stride) seems_alone is_open l.asked 0 0 l.initial.standings l.left l.standings l.kept l.other
 
 abbrev pub decreases-loop-left : goal.decreases-loop-left
 decreases-loop-left l = l.left

@@ -61,5 +61,5 @@ pub returns : goal.returns
 returns c =
     let l = c.loop-left in
     let a = c.args in
-    let none = subst (λ (k : ℕ). Sorting (StandsAt a.t.now a.u.now a.start a.step a.base a.stride) is_alone is_within a.asked a.sure a.close a.standings.now k l.standings l.auto l.other) c.loop-left-test.false l.invariant in
+    let none = subst (λ (k : ℕ). Sorting (StandsAt a.t.now a.u.now a.start a.step a.base a.stride) is_alone is_within a.asked a.sure a.close a.standings.now k l.standings l.kept l.other) c.loop-left-test.false l.invariant in
     sorting_ends {f = is_alone} {g = is_within} none

@@ -12,7 +12,7 @@ use Rattle.deciding.proofs.standings.stand_low.Given as goal
 
 abbrev pub invariant-loop-left : goal.invariant-loop-left
 invariant-loop-left l =
-    Sorting (StandsAt l.standings l.step l.l.standings l.start l.l.step l.l.l.step) is_alone is_within l.normals 0 l.asked l.initial.standings l.left l.initial.other l.other l.initial.left
+    Sorting (StandsAt l.t l.u l.start l.step l.base l.stride) is_alone is_within l.asked 0 l.close l.initial.standings l.left l.standings l.kept l.other
 
 abbrev pub decreases-loop-left : goal.decreases-loop-left
 decreases-loop-left l = l.left

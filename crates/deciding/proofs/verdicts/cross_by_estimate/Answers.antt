@@ -58,4 +58,4 @@ returns c =
     let l = c.loop-left in
     let a = c.args in
     parting_ends
-    (subst (λ (k : ℕ). Parting (CrossedAt a.corners.now a.own.now a.second.now a.standings.now a.from) a.asked a.close k l.auto l.other) c.loop-left-test.false l.invariant)
+    (subst (λ (k : ℕ). Parting (CrossedAt a.corners.now a.own.now a.second.now a.standings.now a.from) a.asked a.close k l.kept l.other) c.loop-left-test.false l.invariant)

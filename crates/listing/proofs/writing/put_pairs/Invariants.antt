@@ -12,7 +12,7 @@ use Rattle.listing.proofs.writing.put_pairs.Given as goal
 
 abbrev pub invariant-loop-k : goal.invariant-loop-k
 invariant-loop-k l =
-    (l.k ≤ l.l.words) × Filling (two_each (gathered (told_by l.l.l.initial.k) 0 l.l.words)) l.initial.out (two_each (gathered (told_by l.l.l.initial.k) l.k (l.l.words - l.k))) l.l.initial.k l.initial.k
+    (l.k ≤ l.end) × Filling (two_each (gathered (told_by l.words) 0 l.end)) l.initial.out (two_each (gathered (told_by l.words) l.k (l.end - l.k))) l.out l.at
 
 abbrev pub decreases-loop-k : goal.decreases-loop-k
-decreases-loop-k l = l.l.words - l.k
+decreases-loop-k l = l.end - l.k

@@ -12,12 +12,8 @@ use Rattle.listing.specs.Pairs.{two_each}
 use Rattle.listing.specs.Writing.{word_pairs}
 use Rattle.listing.proofs.Filling.{Filling, filling_starts, room_for_more, filled_one_by_one, filling_ends}
 use Rattle.listing.proofs.Telling.{next_pair, no_more}
+use Rattle.listing.proofs.writing.put_word.Invariants.{told}
 use Rattle.listing.proofs.writing.put_word.Goals as goal
-
--- what a word tells: the pair of its lowest bit that is set, and then what the word without that bit tells
-
-abbrev told : ℕ → ℕ → ℕ → List ℕ
-told i from word = two_each (word_pairs i from 64 word)
 
 module _ {all before out : List ℕ} {at z word rest : ℕ} (i from : ℕ) (low : Lowest z word rest) (within : z < 64)
     (f : Filling all before (told i from word) out at) (fits : length all ≤ length before) where

@@ -40,10 +40,10 @@ loop-i-preserved c =
     let l = c.loop-i in
     let a = c.args in
     let more = c.loop-i-test.true in
-    let served = subst (λ (box : List ℤ). RowsFor c.put_table.new.0 box rows.result) (part (6 * l.i) 6 a.bounds.now) rows.ensures in (
+    let served = subst (λ (box : List ℤ). RowsFor c.put_table.new.marks box rows.result) (part (6 * l.i) 6 a.bounds.now) rows.ensures in (
       omega (arith, more),
       omega (arith, c.words-1.given, l.invariant.1),
-      candidates_on a.bounds.now a.boxes.now a.m l.i l.words c.put_row.new.0 l.invariant.2 c.put_row.ensures.0
+      candidates_on a.bounds.now a.boxes.now a.m l.i l.words c.put_row.new.words l.invariant.2 c.put_row.ensures.0
           (λ w h. joined_candidates c.put_table.ensures.1 served h (c.put_row.ensures.1 w h)),
     )
 

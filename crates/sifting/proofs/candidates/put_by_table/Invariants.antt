@@ -12,7 +12,7 @@ use borrow.Author.Rules.{rules}
 use Rattle.sifting.proofs.candidates.put_by_table.Given as goal
 
 abbrev pub invariant-loop-i : goal.invariant-loop-i
-invariant-loop-i l = (l.i ≤ l.boxes) × (length l.initial.i ≡ length l.initial.words) × CandidatesBelow l.l.initial.i l.bounds l.n l.initial.i (l.i * 16)
+invariant-loop-i l = (l.i ≤ l.n) × (length l.words ≡ length l.initial.words) × CandidatesBelow l.bounds l.boxes l.m l.words (l.i * 16)
 
 abbrev pub decreases-loop-i : goal.decreases-loop-i
-decreases-loop-i l = l.boxes - l.i
+decreases-loop-i l = l.n - l.i

@@ -14,7 +14,7 @@ use borrow.Author.Rules.{rules}
 use Rattle.sifting.proofs.candidates.put_one_by_one.Given as goal
 
 abbrev pub invariant-loop-k : goal.invariant-loop-k
-invariant-loop-k l = (l.k ≤ l.boxes * 16) × (length l.initial.k ≡ length l.initial.words) × CandidatesBelow l.l.initial.k l.bounds l.n l.initial.k l.k
+invariant-loop-k l = (l.k ≤ l.n * 16) × (length l.words ≡ length l.initial.words) × CandidatesBelow l.bounds l.boxes l.m l.words l.k
 
 abbrev pub decreases-loop-k : goal.decreases-loop-k
-decreases-loop-k l = l.boxes * 16 - l.k
+decreases-loop-k l = l.n * 16 - l.k

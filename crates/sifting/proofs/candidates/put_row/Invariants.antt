@@ -11,8 +11,8 @@ use Rattle.sifting.proofs.candidates.put_row.Given as goal
 
 abbrev pub invariant-loop-w : goal.invariant-loop-w
 invariant-loop-w l =
-    (l.w ≤ 16) × (length l.initial.w ≡ length l.initial.words) × ((k : ℕ) → k < l.words * 16 → get_or l.initial.w k 0 ≡ get_or l.initial.words k 0)
-    × ((v : ℕ) → v < l.w → Joined l.l.words l.table v (get_or l.initial.w (l.words * 16 + v) 0))
+    (l.w ≤ 16) × (length l.words ≡ length l.initial.words) × ((k : ℕ) → k < l.i * 16 → get_or l.words k 0 ≡ get_or l.initial.words k 0)
+    × ((v : ℕ) → v < l.w → Joined l.table l.rows v (get_or l.words (l.i * 16 + v) 0))
 
 abbrev pub decreases-loop-w : goal.decreases-loop-w
 decreases-loop-w l = 16 - l.w

@@ -12,7 +12,7 @@ use borrow.Author.Rules.{rules}
 use Rattle.sifting.proofs.candidates.reached_of.Given as goal
 
 abbrev pub invariant-loop-t : goal.invariant-loop-t
-invariant-loop-t l = (l.t ≤ l.count) × Candidates l.bounds l.boxes (l.from + l.t) (l.count - l.t) l.initial.t
+invariant-loop-t l = (l.t ≤ l.count) × Candidates l.bounds l.boxes (l.from + l.t) (l.count - l.t) l.bits
 
 abbrev pub decreases-loop-t : goal.decreases-loop-t
 decreases-loop-t l = l.t

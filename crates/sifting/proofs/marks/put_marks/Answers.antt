@@ -22,7 +22,7 @@ loop-e-preserved c =
     let l = c.loop-e in
     let more = c.loop-e-test.true in
     let room : 16 * l.e + 16 ≤ length l.marks = omega (arith, l.invariant.1, more) in
-    let new = c.put_marks_of.new.0 in (
+    let new = c.put_marks_of.new.marks in (
       omega (arith, more),
       same_len_mid (16 * l.e) (16 * l.e + 16 - 16 * l.e) l.marks new (c.put_marks_of.ensures ∙ sym (length_lent (16 * l.e) 16 l.marks room))
           ∙ l.invariant.1,

@@ -9,7 +9,7 @@ use borrow.Author.Rules.{rules}
 use Rattle.sifting.proofs.marks.put_marks.Given as goal
 
 abbrev pub invariant-loop-e : goal.invariant-loop-e
-invariant-loop-e l = (l.e ≤ 6) × (length l.initial.e ≡ 96)
+invariant-loop-e l = (l.e ≤ 6) × (length l.marks ≡ 96)
 
 abbrev pub decreases-loop-e : goal.decreases-loop-e
 decreases-loop-e l = 6 - l.e

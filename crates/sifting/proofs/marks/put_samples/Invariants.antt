@@ -8,7 +8,7 @@ use borrow.Author.Rules.{rules}
 use Rattle.sifting.proofs.marks.put_samples.Given as goal
 
 abbrev pub invariant-loop-k : goal.invariant-loop-k
-invariant-loop-k l = (l.k ≤ 64) × (length l.initial.k ≡ 64)
+invariant-loop-k l = (l.k ≤ 64) × (length l.samples ≡ 64)
 
 abbrev pub decreases-loop-k : goal.decreases-loop-k
 decreases-loop-k l = 64 - l.k

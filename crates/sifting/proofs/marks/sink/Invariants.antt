@@ -7,7 +7,7 @@ use borrow.Author.Rules.{rules}
 use Rattle.sifting.proofs.marks.sink.Given as goal
 
 abbrev pub invariant-loop-k : goal.invariant-loop-k
-invariant-loop-k l = (l.k ≤ l.samples) × (l.samples < length l.initial.k) × (length l.initial.k ≡ length l.initial.samples)
+invariant-loop-k l = (l.k ≤ l.from) × (l.from < length l.samples) × (length l.samples ≡ length l.initial.samples)
 
 abbrev pub decreases-loop-k : goal.decreases-loop-k
 decreases-loop-k l = l.k

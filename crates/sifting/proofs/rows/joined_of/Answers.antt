@@ -36,7 +36,7 @@ pub loop-e-preserved : goal.loop-e-preserved
 loop-e-preserved c =
     let l = c.loop-e in
     let a = c.args in
-    let next = get_or a.table.now (16 * get_or a.t2 l.e 0 + a.w) 0 in (
+    let next = get_or a.table.now (16 * get_or a.rows l.e 0 + a.w) 0 in (
       omega (arith, c.loop-e-test.true),
       omega (arith, and_le_l l.some next, l.invariant.1),
       λ t last each. both_set t l.some next (l.invariant.2 t last (λ d h. each d (omega arith))) (each l.e (omega arith)),

@@ -13,7 +13,7 @@ use borrow.Author.Rules.{rules}
 use Rattle.sifting.proofs.rows.rows_of.Given as goal
 
 abbrev pub invariant-loop-e : goal.invariant-loop-e
-invariant-loop-e l = (l.e ≤ 6) × (length l.initial.e ≡ 6) × ((d : ℕ) → d < l.e → RowFor l.marks d (reach_of d l.bounds) (get_or l.initial.e d 0))
+invariant-loop-e l = (l.e ≤ 6) × (length l.rows ≡ 6) × ((d : ℕ) → d < l.e → RowFor l.marks d (reach_of d l.bounds) (get_or l.rows d 0))
 
 abbrev pub decreases-loop-e : goal.decreases-loop-e
 decreases-loop-e l = 6 - l.e

@@ -12,7 +12,7 @@ use Rattle.sifting.proofs.tables.put_last_row.Given as goal
 
 abbrev pub invariant-loop-w : goal.invariant-loop-w
 invariant-loop-w l =
-    (l.w ≤ 16) × (length l.initial.w ≡ 1552) × ((v : ℕ) → v < l.w → AllSet l.table l.initial.w v) × ((k : ℕ) → k < 1536 → get_or l.initial.w k 0 ≡ get_or l.initial.table k 0)
+    (l.w ≤ 16) × (length l.table ≡ 1552) × ((v : ℕ) → v < l.w → AllSet l.m l.table v) × ((k : ℕ) → k < 1536 → get_or l.table k 0 ≡ get_or l.initial.table k 0)
 
 abbrev pub decreases-loop-w : goal.decreases-loop-w
 decreases-loop-w l = 16 - l.w

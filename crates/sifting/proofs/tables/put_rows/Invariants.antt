@@ -14,7 +14,7 @@ use borrow.Author.Rules.{rules}
 use Rattle.sifting.proofs.tables.put_rows.Given as goal
 
 abbrev pub invariant-loop-k : goal.invariant-loop-k
-invariant-loop-k l = (l.k ≤ 1536) × (length l.initial.k ≡ 1552) × ((j : ℕ) → j < l.k → SiftsAt l.marks l.l.initial.k l.boxes l.initial.k j)
+invariant-loop-k l = (l.k ≤ 1536) × (length l.table ≡ 1552) × ((j : ℕ) → j < l.k → SiftsAt l.boxes l.marks l.m l.table j)
 
 abbrev pub decreases-loop-k : goal.decreases-loop-k
 decreases-loop-k l = 1536 - l.k

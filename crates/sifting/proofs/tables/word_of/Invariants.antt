@@ -19,7 +19,7 @@ use borrow.Author.Rules.{rules}
 use Rattle.sifting.proofs.tables.word_of.Given as goal
 
 abbrev pub invariant-loop-t : goal.invariant-loop-t
-invariant-loop-t l = (l.t ≤ l.count) × (l.initial.t < 2 ^ (l.count - l.t)) × Sifts l.boxes l.e (to_z w32 l.mark) (l.from + l.t) (l.count - l.t) l.initial.t
+invariant-loop-t l = (l.t ≤ l.count) × (l.bits < 2 ^ (l.count - l.t)) × Sifts l.boxes l.e l.mark (l.from + l.t) (l.count - l.t) l.bits
 
 abbrev pub decreases-loop-t : goal.decreases-loop-t
 decreases-loop-t l = l.t

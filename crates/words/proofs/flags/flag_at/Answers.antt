@@ -6,7 +6,6 @@ use native.Mathlib.Omega.{arith}
 use native.Mathlib.Nat.{pow-le-pow_right}
 use lib.Pow.{pow_pos}
 use mir.Val.{bool_byte}
-use borrow.Author.Rules.{rules}
 use Rattle.words.proofs.flags.flag_at.Goals as goal
 
 shifted : (flag : Bool) (place : ℕ) → place < 64 → bool_byte flag * 2 ^ place % 2 ^ 64 ≡ bool_byte flag * 2 ^ place

@@ -1,7 +1,6 @@
 -- `words::lowest::without_lowest` meets its contract: the word and the number before it have all bits in common but the lowest that is set, and none
 -- below it. Assumes nothing.
 use native.Mathlib.Omega.{arith}
-use borrow.Author.Rules.{rules}
 use Rattle.words.proofs.LowestLaws.{lowest_taken}
 use Rattle.words.proofs.lowest.without_lowest.Goals as goal
 
