@@ -5,7 +5,6 @@ use lib.ListN.{length, get_or}
 use Rattle.fields.specs.Fields.{tag_fits, size_of}
 use Rattle.fields.specs.declared.heads.Head.TheVariants.{Whole}
 use Rattle.fields.proofs.FieldLaws.{at_end, cut_header, wrong, cut_body, whole}
-use borrow.Author.Rules.{rules}
 use Rattle.fields.proofs.heads.head_of.Goals as goal
 
 pub returns-then-rest-eq0 : goal.returns-then-rest-eq0

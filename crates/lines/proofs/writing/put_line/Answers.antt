@@ -5,7 +5,6 @@ use native.Mathlib.Omega.{arith}
 use lib.ListN.{length, length-append}
 use Rattle.lines.specs.Lines.{decimal}
 use Rattle.lines.proofs.LineLaws.{Put, put_more, room_left, line_put, short_decimal, shorter_decimal}
-use borrow.Author.Rules.{rules}
 use Rattle.lines.proofs.writing.put_line.Goals as goal
 
 pub put_number-a-requires : goal.put_number-a-requires

@@ -1,12 +1,10 @@
 -- `lines::writing::put_number` meets its contract: the digits that the kit makes are the number's text. Assumes nothing.
-use mathlib.Core.Path.{◌≡◌, sym, ap, ◌∙◌, subst}
+use mathlib.Core.Path.{sym, ap, ◌∙◌, subst}
 use mathlib.Core.List.{List}
 use Prim.Native.Nat.{ℕ, ◌+◌, ◌≤◌}
-use lib.ListN.{length, take}
+use lib.ListN.{length}
 use Rattle.lines.specs.Laid.{laid}
-use Rattle.lines.specs.Lines.{decimal}
 use Rattle.lines.proofs.LineLaws.{digits_decimal}
-use borrow.Author.Rules.{rules}
 use Rattle.lines.proofs.writing.put_number.Goals as goal
 
 pub put-requires : goal.put-requires

@@ -2,10 +2,9 @@
 use mathlib.Core.Path.{◌≡◌, ap, ◌∙◌}
 use Prim.Native.Nat.{suc, ◌+◌, ◌/◌, ◌%◌}
 use native.Mathlib.Omega.{arith}
-use lib.ListN.{length-set, set}
+use lib.ListN.{set}
 use mir.Facts.{to_z-of_z}
 use Rattle.packing.specs.Writing.{bits_of}
-use borrow.Author.Rules.{rules}
 use Rattle.packing.proofs.writing.put_number.Goals as goal
 
 pub returns : goal.returns
