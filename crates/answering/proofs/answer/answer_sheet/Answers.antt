@@ -8,9 +8,9 @@ use Rattle.answering.proofs.answer.answer_sheet.Goals as goal
 pub returns-then-sheet-gt-LONGEST : goal.returns-then-sheet-gt-LONGEST
 returns-then-sheet-gt-LONGEST c =
     let p = c.put_line.ensures in
-    answers c.args.out.now (long c.if-sheet-gt-LONGEST.true) (omega (arith, p.0)) p.1
+    answers c.args.out.now (long (omega arith)) (omega (arith, p.0)) p.1
 
 pub returns : goal.returns
 returns c =
     let w = c.write_lines.ensures in
-    answers c.args.out.now (read c.if-sheet-gt-LONGEST.false w.right) w.size w.leaves
+    answers c.args.out.now (read (omega arith) w.right) w.size w.leaves

@@ -15,17 +15,11 @@ use Rattle.answering.proofs.SheetLaws.{call_told}
 use borrow.Author.Rules.{rules}
 use Rattle.answering.proofs.answer.apply_field.Goals as goal
 
--- What the call told, whatever calls made the plate.
-module _ (p : tie.After-apply) where
-  told : let s = p.before.before.before in (before : List Call) → Stands (run before) s.args.plate →
-      let c = call_of s.args.tag s.args.body.now in
-      (number_of (told_check p.apply.result.told) ≡ number_of (outcome (run before) c)) × Stands (run (c ∷ before)) p.apply.result.plate
-  told = call_told p.apply.result p.apply.ensures
-
 pub put_line-next-requires : goal.put_line-next-requires
 put_line-next-requires c =
     let st = c.requires.0 in
-    let t = told c st.calls st.stands in
+    -- What the call told.
+    let t = call_told c.apply-answer.result c.apply-answer.ensures st.calls st.stands in
     let call = call_of c.args.tag c.args.body.now in (
       subst (λ (n : ℕ). n < 100) (sym (c.number_of.ensures ∙ t.0)) (small_number (run st.calls) call),
       small_count (call ∷ st.calls) t.1,
@@ -36,7 +30,8 @@ pub returns : goal.returns
 returns c =
     record {
       kept = λ before st.
-          let t = told c before st in
+          -- What the call told, whatever calls made the plate.
+          let t = call_told c.apply-answer.result c.apply-answer.ensures before st in
           let is = c.number_of.ensures ∙ t.0 in
           record {
             stands = t.1;

@@ -38,6 +38,5 @@ returns-in-3 c =
 
 pub returns-in_default : goal.returns-in_default
 returns-in_default c =
-    let no = c.in_default-own.rest in
     subst (λ (call : Call). Promise c.args.plate call c.undo.result)
-    (undo_call c.args.body.now no.0.0.1 no.0.1 no.1) c.undo.ensures
+    (undo_call c.args.body.now (λ e. omega arith) (λ e. omega arith) (λ e. omega arith)) c.undo.ensures

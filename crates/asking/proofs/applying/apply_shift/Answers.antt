@@ -10,6 +10,6 @@ use Rattle.asking.proofs.applying.apply_shift.Goals as goal
 pub returns : goal.returns
 returns c =
     subst (λ (made : Change). Promise c.args.plate (change made) c.shift.result)
-    (shift_made c.args.body.now {c = c.numbers_at.new.1.1.0} c.byte_at.ensures.0 (search rules) (search rules) (search rules)
+    (shift_made c.args.body.now {by = c.numbers_at.new.numbers} c.byte_at.ensures.0 (search rules) (search rules) (search rules)
     c.numbers_at.ensures)
     c.shift.ensures

@@ -12,7 +12,7 @@ use borrow.Author.Rules.{rules}
 use Rattle.asking.proofs.checking.field_checked.Goals as goal
 
 pub place_checked-requires : goal.place_checked-requires
-place_checked-requires c = (s.requires.1, place_size s.requires.2 c.match.keys1)
+place_checked-requires c = (c.requires.1, place_size c.requires.2 c.in-1.is)
 
 pub byte_at-requires : goal.byte_at-requires
 byte_at-requires c =
@@ -20,7 +20,7 @@ byte_at-requires c =
     omega (arith, one)
 
 pub shift_checked-requires : goal.shift_checked-requires
-shift_checked-requires c = (s.requires.0, s.requires.1, shift_size s.requires.2 c.match.keys3)
+shift_checked-requires c = (c.requires.0, c.requires.1, shift_size c.requires.2 c.in-3.is)
 
 pub returns-in-1 : goal.returns-in-1
 returns-in-1 c = λ h shown reach.
@@ -40,6 +40,5 @@ returns-in-3 c = λ h shown reach.
 
 pub returns-in_default : goal.returns-in_default
 returns-in_default c = λ h shown reach.
-    let no = c.in_default-own.rest in
     undo_number h c.undo_checked.ensures reach
-    ∙ ap (λ (call : Call). number_of (outcome h call)) (undo_call c.args.body.now no.0.0.1 no.0.1 no.1)
+    ∙ ap (λ (call : Call). number_of (outcome h call)) (undo_call c.args.body.now (λ e. omega arith) (λ e. omega arith) (λ e. omega arith))

@@ -10,5 +10,5 @@ returns c = λ S shown.
     let body = c.args.body.now in
     c.shift_checked.ensures.rule S shown
     ∙ ap (change_checks S)
-    (shift_made body {c = c.numbers_at.new.1.1.0} c.byte_at.ensures.0 (search rules) (search rules) (search rules)
+    (shift_made body {by = c.numbers_at.new.numbers} c.byte_at.ensures.0 (search rules) (search rules) (search rules)
     c.numbers_at.ensures)

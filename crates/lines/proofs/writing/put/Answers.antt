@@ -1,7 +1,7 @@
 -- `lines::writing::put` meets its contract: the first k bytes are laid, and the others are still the old ones. Assumes nothing.
 use mathlib.Core.Path.{◌≡◌, sym, ap, ◌∙◌}
 use mathlib.Core.List.{List}
-use Prim.Native.Nat.{ℕ, ◌+◌, ◌-◌, ◌≤◌}
+use Prim.Native.Nat.{ℕ, ◌+◌}
 use native.Mathlib.Numerals.{add-one}
 use Rattle.lines.proofs.LineLaws.{pasted_all}
 use borrow.Author.Rules.{rules}

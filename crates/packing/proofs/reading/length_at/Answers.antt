@@ -1,7 +1,6 @@
 -- `packing::reading::length_at` meets its contract: the two bytes are the number. Assumes nothing.
 use native.Mathlib.Omega.{arith}
 use Rattle.packing.proofs.ByteLaws.{two_at}
-use borrow.Author.Rules.{rules}
 use Rattle.packing.proofs.reading.length_at.Goals as goal
 
 pub returns : goal.returns

@@ -3,7 +3,6 @@ use mathlib.Core.Path.{ap, ◌∙◌}
 use mir.Syntax.{w32}
 use Rattle.algebra.proofs.Machine.{returned}
 use Rattle.packing.specs.Reading.{signed_of}
-use borrow.Author.Rules.{rules}
 use Rattle.packing.proofs.reading.number_at.Goals as goal
 
 pub returns : goal.returns

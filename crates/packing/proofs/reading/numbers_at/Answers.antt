@@ -1,11 +1,9 @@
 -- `packing::reading::numbers_at` meets its contract: the first k numbers are read, and the others are still the old ones. Assumes nothing.
-use mathlib.Core.Path.{◌≡◌, refl, sym, ap, ◌∙◌}
-use mathlib.Core.List.{List}
-use Prim.Native.Nat.{ℕ, ◌*◌, ◌-◌, ◌≤◌}
+use mathlib.Core.Path.{refl, sym, ap, ◌∙◌}
+use Prim.Native.Nat.{◌*◌, ◌≤◌}
 use native.Mathlib.Numerals.{add-one}
 use native.Mathlib.Omega.{arith}
-use borrow.Author.Rules.{rules}
-use lib.IntN.{ℤ, pos}
+use lib.IntN.{pos}
 use lib.ListN.{length, length-set, set, drop}
 use lib.Seq.{drop-drop}
 use mir.Syntax.{w32}
@@ -14,10 +12,6 @@ use Rattle.algebra.proofs.Machine.{returned}
 use Rattle.packing.specs.Reading.{number_in, numbers_in}
 use Rattle.packing.proofs.ByteLaws.{length_numbers, number_in_law}
 use Rattle.packing.proofs.reading.numbers_at.Goals as goal
-
--- What is to be read.
-abbrev wanted : List ℕ → ℕ → List ℤ → List ℤ
-wanted bytes at numbers = numbers_in (length numbers) (drop at bytes)
 
 pub loop-k-init : goal.loop-k-init
 loop-k-init c = (omega arith, refl, refl)
@@ -42,6 +36,6 @@ pub returns : goal.returns
 returns c =
     let l = c.loop-k in
     let a = c.args in
-    let new = wanted a.bytes.now a.at a.numbers.now in
+    let new = numbers_in (length a.numbers.now) (drop a.at a.bytes.now) in
     let end : length a.numbers.now ≤ l.k = omega (arith, l.invariant.1, c.loop-k-test.false) in
     l.invariant.2 ∙ over_all a.numbers.now new l.k end (omega (arith, end, length_numbers (length a.numbers.now) (drop a.at a.bytes.now)))

@@ -1,7 +1,6 @@
 -- `packing::reading::signed` meets its contract: below 2^31 the bits are the number, and from there on they are taken from -1. Assumes nothing.
 use native.Mathlib.Omega.{arith}
 use Rattle.packing.proofs.ByteLaws.{read_bits, value_fits, high_bits}
-use borrow.Author.Rules.{rules}
 use Rattle.packing.proofs.reading.signed.Goals as goal
 
 pub returns-then-bits-lt2147483648 : goal.returns-then-bits-lt2147483648

@@ -11,13 +11,9 @@ use Rattle.plate.proofs.Outcomes.{shown, change_refused, change_made}
 use borrow.Author.Rules.{rules}
 use Rattle.plate.proofs.calls.lift.Goals as goal
 
--- Nothing was found.
-nothing-found : (c : tie.After-enum-told) → told_check c.before.before.lift_checked.result ≡ fine
-nothing-found c = ap told_check c.enum_told.given.1
-
 pub changed-requires : goal.changed-requires
 changed-requires c =
-    let slot = c.lift_checked.ensures.slot_is_within (nothing-found c) in
+    let slot = c.lift_checked.ensures.slot_is_within (ap told_check c.in-Fine.is) in
     (omega (arith, slot), search rules)
 
 pub returns-in-Refused : goal.returns-in-Refused
@@ -32,5 +28,5 @@ unfolding apply
 returns-in-Fine c = record {
   kept = λ before st.
       let found = c.lift_checked.ensures.rule _ st.parts in
-      change_made (run before) _ _ _ (sym found ∙ nothing-found c) refl (c.changed.ensures.is free (shown before st) free_fits refl refl);
+      change_made (run before) _ _ _ (sym found ∙ ap told_check c.in-Fine.is) refl (c.changed.ensures.is free (shown before st) free_fits refl refl);
 }

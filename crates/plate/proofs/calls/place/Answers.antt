@@ -11,20 +11,16 @@ use Rattle.plate.proofs.Outcomes.{shown, change_refused, change_made}
 use borrow.Author.Rules.{rules}
 use Rattle.plate.proofs.calls.place.Goals as goal
 
--- Nothing was found.
-nothing-found : (c : tie.After-enum-told) → told_check c.before.before.place_checked.result ≡ fine
-nothing-found c = ap told_check c.enum_told.given.1
-
 pub overflow_add-part : goal.overflow_add-part
-overflow_add-part c = record { fits = omega (arith, c.place_checked.ensures.part_is_within (nothing-found c)) }
+overflow_add-part c = record { fits = omega (arith, c.place_checked.ensures.part_is_within (ap told_check c.in-Fine.is)) }
 
 pub overflow_cast-part : goal.overflow_cast-part
-overflow_cast-part c = record { fits = omega (arith, c.place_checked.ensures.part_is_within (nothing-found c)) }
+overflow_cast-part c = record { fits = omega (arith, c.place_checked.ensures.part_is_within (ap told_check c.in-Fine.is)) }
 
 pub changed-requires : goal.changed-requires
 changed-requires c =
     let found = c.place_checked.ensures in
-    (omega (arith, found.slot_is_within (nothing-found c)), (found.ready (nothing-found c)).long)
+    (omega (arith, found.slot_is_within (ap told_check c.in-Fine.is)), (found.ready (ap told_check c.in-Fine.is)).long)
 
 pub returns-in-Refused : goal.returns-in-Refused
 returns-in-Refused c = record {
@@ -38,6 +34,6 @@ unfolding apply
 returns-in-Fine c = record {
   kept = λ before st.
       let found = c.place_checked.ensures in
-      change_made (run before) _ _ _ (sym (found.rule _ st.parts) ∙ nothing-found c) refl
-      (c.changed.ensures.is (held _ _) (shown before st) (found.ready (nothing-found c)) (add-one _) refl);
+      change_made (run before) _ _ _ (sym (found.rule _ st.parts) ∙ ap told_check c.in-Fine.is) refl
+      (c.changed.ensures.is (held _ _) (shown before st) (found.ready (ap told_check c.in-Fine.is)) (add-one _) refl);
 }

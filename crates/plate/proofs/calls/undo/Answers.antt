@@ -8,12 +8,11 @@ use Rattle.plate.proofs.Outcomes.{refusal, undo_outcome, undo_ahead, undo_made}
 use borrow.Author.Rules.{rules}
 use Rattle.plate.proofs.calls.undo.Goals as goal
 
--- There is a change to take back.
-ahead : (c : tie.After-enum-told) → c.before.before.before.args.plate.reach ≡ 0 → ⊥
-ahead c = undo_ahead _ (sym c.before.before.undo_checked.ensures ∙ ap told_check c.enum_told.given.1)
-
 pub overflow_sub-before : goal.overflow_sub-before
-overflow_sub-before c = let some = ahead c in omega (arith, some)
+overflow_sub-before c = 
+    -- There is a change to take back.
+    let some = undo_ahead _ (sym c.undo_checked.ensures ∙ ap told_check c.in-Fine.is) in
+    omega (arith, some)
 
 pub returns-in-Refused : goal.returns-in-Refused
 returns-in-Refused c = record {
@@ -25,5 +24,5 @@ returns-in-Refused c = record {
 pub returns-in-Fine : goal.returns-in-Fine
 returns-in-Fine c = record {
   kept = λ before st.
-      undo_made before _ c.popped.result _ st (ahead c) c.popped.ensures c.restored.ensures refl;
+      undo_made before _ c.popped.result _ st (undo_ahead _ (sym c.undo_checked.ensures ∙ ap told_check c.in-Fine.is)) c.popped.ensures c.restored.ensures refl;
 }

@@ -1,7 +1,6 @@
 -- `plate::questions::parts` meets its contract: each way out tells what the checks of the two parts find there. Assumes nothing.
 use mathlib.Core.Path.{sym, ◌∙◌}
 use borrow.Author.Rules.{rules}
-use borrow.Author.Tests.{not-true, not-false}
 use Rattle.plate.proofs.PartsLaws.{parts_7_first, parts_7_second, parts_10_first, parts_10_second, parts_told}
 use Rattle.plate.proofs.questions.parts.Goals as goal
 
@@ -18,18 +17,18 @@ pub returns-then-not-has_mark : goal.returns-then-not-has_mark
 returns-then-not-has_mark c =
     let a = c.args in
     parts_10_first a.plate a.p a.q c.if-p-gt15.false c.if-q-gt15.false
-    (sym c.has_mark.ensures ∙ not-true _ c.if-not-has_mark.true) c.no_part-then-not-has_mark.ensures
+    (sym c.has_mark.ensures ∙ c.if-not-has_mark.true) c.no_part-then-not-has_mark.ensures
 
 pub returns-then-not-has_mark-2 : goal.returns-then-not-has_mark-2
 returns-then-not-has_mark-2 c =
     let a = c.args in
     parts_10_second a.plate a.p a.q c.if-p-gt15.false c.if-q-gt15.false
-    (sym c.has_mark.ensures ∙ not-false _ c.if-not-has_mark.false)
-    (sym c.has_mark-2.ensures ∙ not-true _ c.if-not-has_mark-2.true) c.no_part-then-not-has_mark-2.ensures
+    (sym c.has_mark.ensures ∙ c.if-not-has_mark.false)
+    (sym c.has_mark-2.ensures ∙ c.if-not-has_mark-2.true) c.no_part-then-not-has_mark-2.ensures
 
 pub returns : goal.returns
 returns c =
     let a = c.args in
     parts_told a.plate a.p a.q c.if-p-gt15.false c.if-q-gt15.false
-    (sym c.has_mark.ensures ∙ not-false _ c.if-not-has_mark.false)
-    (sym c.has_mark-2.ensures ∙ not-false _ c.if-not-has_mark-2.false) c.present_verdict.ensures
+    (sym c.has_mark.ensures ∙ c.if-not-has_mark.false)
+    (sym c.has_mark-2.ensures ∙ c.if-not-has_mark-2.false) c.present_verdict.ensures

@@ -25,7 +25,7 @@ pub returns-then-all_on : goal.returns-then-all_on
 returns-then-all_on c = λ S h.
     let a = c.args in
     if_different _ _ _ refl c.if-p-q.false
-    (if_left _ _ (c.marks_strike.ensures S h ∙ (λ k. marks_strike (add-one a.p c) (add-one a.q c) S)) c.if-marks_strike.false (c.shells_verdict.ensures S h))
+    (if_left _ _ (c.marks_strike.ensures S h ∙ (λ k. marks_strike (add-one a.p k) (add-one a.q k) S)) c.if-marks_strike.false (c.shells_verdict.ensures S h))
 
 pub returns : goal.returns
 returns c = λ S h. absurd (never_off h (sym c.all_on.ensures ∙ c.if-all_on.false))

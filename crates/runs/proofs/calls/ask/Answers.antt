@@ -41,5 +41,5 @@ returns-in-4 c = rw c.in-4.is (c.change_answer-in-4.ensures.kept c.undo.ensures)
 
 pub returns-in_default : goal.returns-in_default
 returns-in_default c =
-    let is : c.args.kind ≡ 5 = omega (arith, c.requires.0, c.requires.1, c.in_default-own.rest) in
+    let is : c.args.kind ≡ 5 = omega (arith, c.requires.0, c.requires.1) in
     rw is (parts_kept c.args.plate (told_verdict c.parts.result) c.verdict_numbers.result c.parts.ensures c.verdict_numbers.ensures)
