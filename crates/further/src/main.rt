@@ -9,6 +9,7 @@ ghost use Rattle.std.specs.Prelude.{◌≤◌};
 
 use plate::Plate;
 use printing::{Call, rows, say};
+use std::io;
 use stories::{fill, lift_row, parts_row, place_rows, say_plate, shift_row, undo_row, undo_times};
 
 // The end of the grid.
@@ -22,8 +23,9 @@ const ACROSS: [i32; 9] = [1, 1, -1, 1, 1, 1, 5, 5, 1];
 const ABOVE: [i32; 9] = [1, 1, 1, 2, 1, 1, 1, 2, 1];
 
 // The turn: the other signs and the ends of the grid; then lengths, several bad positions, and numbers past the ends of the grid.
-fn turns() {
+fn turns(rt: &impl Print) -> io::Result<()> {
     rows(
+        rt,
         Call::Turn,
         b"Further rows of the turn\n\
           to the right: 0 0 0 4 4 0\n\
@@ -37,12 +39,13 @@ fn turns() {
           positions 2 and 4 off the grid: 0 0 1073741825 0 -1073741825 4\n\
           only the last off the grid: 0 0 4 0 0 -1073741825\n\
           the ends of 32 bits: -2147483648 2147483647 4 0 0 4\n",
-    );
+    )
 }
 
 // The same of the side.
-fn sides() {
+fn sides(rt: &impl Print) -> io::Result<()> {
     rows(
+        rt,
         Call::Side,
         b"Further rows of the side\n\
           (0,0,0) (1,0,0) (0,1,0) (0,0,1): 0 0 0 1 0 0 0 1 0 0 0 1\n\
@@ -61,12 +64,13 @@ fn sides() {
           13 numbers, the last off the grid: 0 0 0 1 0 0 0 1 0 0 0 1 1073741825\n\
           positions 3, 7 and 11 off the grid: 0 0 0 -1073741825 0 0 0 1073741825 0 0 0 1073741825\n\
           only the last off the grid: 0 0 0 1 0 0 0 1 0 0 0 1073741825\n",
-    );
+    )
 }
 
 // The flat test where the triangles touch or nearly do; then what it refuses, and in which order.
-fn flats() {
+fn flats(rt: &impl Print) -> io::Result<()> {
     rows(
+        rt,
         Call::Flat,
         b"Further rows of the flat test\n\
           A; A: 0 0 4 0 0 4; 0 0 4 0 0 4\n\
@@ -86,13 +90,14 @@ fn flats() {
           flat; off the grid: 0 0 0 0 4 0; -1073741825 0 4 0 0 4\n\
           A; positions 3 and 5 off the grid: 0 0 4 0 0 4; 0 0 4 -1073741825 0 1073741825\n\
           A; flat: 0 0 4 0 0 4; 5 5 1 1 3 3\n",
-    );
+    )
 }
 
 // Triangles in space: corners on the other's plane, planes that stand upright, and the ends of the grid; then what the test refuses,
 // and in which order.
-fn pairs() {
+fn pairs(rt: &impl Print) -> io::Result<()> {
     rows(
+        rt,
         Call::Pair,
         b"Further rows of the test in space\n\
           a corner on the other's plane: 2 -2 3 1 1 3 2 4 -1; 2 1 1 -2 3 3 2 -3 -1\n\
@@ -104,12 +109,13 @@ fn pairs() {
           off the grid; 6 numbers: 1073741825 0 0 4 0 0 0 4 0; 0 0 0 4 0 0\n\
           flat and off the grid; off the grid: 0 0 0 4 0 0 1073741825 0 0; 0 0 0 4 0 0 0 4 1073741825\n\
           flat; off the grid: 0 0 0 4 0 0 8 0 0; 0 0 0 4 0 0 0 4 1073741825\n",
-    );
+    )
 }
 
 // Flat triangles in space against A: points, that is, three equal corners, and wires.
-fn wires_on_a_triangle() {
+fn wires_on_a_triangle(rt: &impl Print) -> io::Result<()> {
     rows(
+        rt,
         Call::Pair,
         b"Points and wires against A\n\
           a point on a corner: 4 0 0 4 0 0 4 0 0; 0 0 0 4 0 0 0 4 0\n\
@@ -123,12 +129,13 @@ fn wires_on_a_triangle() {
           A; a wire in its plane, across: 0 0 0 4 0 0 0 4 0; -1 1 0 1 1 0 5 1 0\n\
           A; a wire in its plane, past it: 0 0 0 4 0 0 0 4 0; 5 0 0 0 5 0 3 2 0\n\
           A; a wire of two equal corners, to a corner: 0 0 0 4 0 0 0 4 0; 1 2 3 1 2 3 0 4 0\n",
-    );
+    )
 }
 
 // And against each other.
-fn wires_and_points() {
+fn wires_and_points(rt: &impl Print) -> io::Result<()> {
     rows(
+        rt,
         Call::Pair,
         b"Points and wires against each other\n\
           equal points: 5 -7 3 5 -7 3 5 -7 3; 5 -7 3 5 -7 3 5 -7 3\n\
@@ -145,12 +152,13 @@ fn wires_and_points() {
           in one plane, one past the other's end: 0 0 0 4 4 4 2 2 2; 6 4 5 4 6 5 5 5 5\n\
           from end to end of the grid, across: \
           -1073741824 -1073741824 -1073741824 1073741824 1073741824 1073741824 0 0 0; -1073741824 1073741824 1073741824 1073741824 -1073741824 -1073741824 1073741824 -1073741824 -1073741824\n",
-    );
+    )
 }
 
 // A segment and a triangle in space, and what the test of them refuses.
-fn segments() {
+fn segments(rt: &impl Print) -> io::Result<()> {
     rows(
+        rt,
         Call::Segment,
         b"Further rows of the segment test\n\
           through A: 1 1 -1 1 1 1; 0 0 0 4 0 0 0 4 0\n\
@@ -164,13 +172,14 @@ fn segments() {
           equal ends; the same point: 3 2 1 3 2 1; 3 2 1 3 2 1 3 2 1\n\
           A; a segment: 0 0 0 4 0 0 0 4 0; 1 1 -1 1 1 1\n\
           equal ends off the grid; A: 0 0 1073741825 0 0 1073741825; 0 0 0 4 0 0 0 4 0\n",
-    );
+    )
 }
 
 // Listings: the ends of the buffer, and empty lists; then what is refused, and in which order, for the start and the lengths and for
 // what the checks find in lists of two triangles. After its lists a row has the start in the buffer.
-fn lists() {
+fn lists(rt: &impl Print) -> io::Result<()> {
     rows(
+        rt,
         Call::List,
         b"Further rows of the listing\n\
           no triangles, start 7: ; ; 7\n\
@@ -188,23 +197,27 @@ fn lists() {
           fine, then positions 14 and 16 off the grid: 0 0 0 4 0 0 0 4 0 1 1 1 2 1 1073741825 1 1073741825 1; 0 0 0 4 0 0 0 4 0; 0\n\
           flat; off the grid: 0 0 0 4 0 0 8 0 0; 0 0 0 4 0 0 0 4 1073741825; 0\n\
           too little room; off the grid: 0 0 0 4 0 0 0 4 0; 0 0 0 4 0 0 0 4 1073741825; 7\n",
-    );
+    )
 }
 
 // The reach below its end, and the most clashes that a plate can have.
-fn changes() {
-    say(b"Further changes of the plate\n40 changes, 5 undos, 3 changes: ");
+fn changes(rt: &impl Print) -> io::Result<()> {
+    say(
+        rt,
+        b"Further changes of the plate\n40 changes, 5 undos, 3 changes: ",
+    )?;
     let filled = fill(plate::empty(), 0, 40);
     let left = undo_times(filled, 5);
-    say_plate(fill(left, 35, 38));
-    say(b"all 64 slots filled, 4 as each part: ");
-    say_plate(fill(plate::empty(), 0, 64));
+    say_plate(rt, fill(left, 35, 38))?;
+    say(rt, b"all 64 slots filled, 4 as each part: ")?;
+    say_plate(rt, fill(plate::empty(), 0, 64))
 }
 
 // What place refuses for the slot and the part. After its colon a row has the slot and the part, then the triangle.
-fn place_number_refusals() -> Plate {
-    say(b"Further rows of place\n");
+fn place_number_refusals(rt: &impl Print) -> io::Result<Plate> {
+    say(rt, b"Further rows of place\n")?;
     place_rows(
+        rt,
         plate::empty(),
         b"A in slot 63 as part 15: 63 15; 0 0 0 4 0 0 0 4 0\n\
           slot 64, part 16, 8 numbers: 64 16; 0 0 0 4 0 0 0 4\n\
@@ -215,8 +228,9 @@ fn place_number_refusals() -> Plate {
 }
 
 // What it refuses for the triangle, and then for the slot, which has A as part 15; and two triangles that it places.
-fn place_list_refusals(plate: Plate) {
+fn place_list_refusals(rt: &impl Print, plate: Plate) -> io::Result<()> {
     place_rows(
+        rt,
         plate,
         b"a filled slot, no numbers: 63 0;\n\
           a filled slot, 10 numbers, the first off the grid: 63 0; 1073741825 0 0 4 0 0 0 4 0 0\n\
@@ -225,19 +239,25 @@ fn place_list_refusals(plate: Plate) {
           a filled slot: 63 0; 0 0 0 4 0 0 0 4 0\n\
           A in slot 0 as part 15: 0 15; 0 0 0 4 0 0 0 4 0\n\
           A in slot 62 as part 0: 62 0; 0 0 0 4 0 0 0 4 0\n",
-    );
+    )?;
+    Ok(())
 }
 
 // Lift of A in slots 0 to 2, as parts 0 to 2: what it refuses, and a slot that is filled again.
-fn lifts() {
-    say(b"Further rows of lift\n");
-    let a = lift_row(fill(plate::empty(), 0, 3), 64);
-    let b = lift_row(a, 3);
-    let c = lift_row(b, 1);
-    let d = lift_row(c, 1);
-    let e = place_rows(d, b"A in slot 1 again, as part 0: 1 0; 0 0 0 4 0 0 0 4 0\n");
-    let f = undo_row(e);
-    undo_row(f);
+fn lifts(rt: &impl Print) -> io::Result<()> {
+    say(rt, b"Further rows of lift\n")?;
+    let a = lift_row(rt, fill(plate::empty(), 0, 3), 64)?;
+    let b = lift_row(rt, a, 3)?;
+    let c = lift_row(rt, b, 1)?;
+    let d = lift_row(rt, c, 1)?;
+    let e = place_rows(
+        rt,
+        d,
+        b"A in slot 1 again, as part 0: 1 0; 0 0 0 4 0 0 0 4 0\n",
+    )?;
+    let f = undo_row(rt, e)?;
+    undo_row(rt, f)?;
+    Ok(())
 }
 
 // A plate after a place.
@@ -257,41 +277,43 @@ fn shift_plate() -> Plate {
 
 // What shift refuses, and in which order: a part above 15, a part with no triangle, and moves that would take slot 9, slots 7
 // and 9, and slot 9 off the grid.
-fn shift_refusals(plate: Plate) -> Plate {
-    let a = shift_row(plate, 16, 2147483647, 0, 0);
-    let b = shift_row(a, 3, 0, 2147483647, 0);
-    let c = shift_row(b, 2, 1, 0, 0);
-    let d = shift_row(c, 2, 2, 0, 0);
-    shift_row(d, 2, 0, 0, -1)
+fn shift_refusals(rt: &impl Print, plate: Plate) -> io::Result<Plate> {
+    let a = shift_row(rt, plate, 16, 2147483647, 0, 0)?;
+    let b = shift_row(rt, a, 3, 0, 2147483647, 0)?;
+    let c = shift_row(rt, b, 2, 1, 0, 0)?;
+    let d = shift_row(rt, c, 2, 2, 0, 0)?;
+    shift_row(rt, d, 2, 0, 0, -1)
 }
 
 // Moves by the ends of 32 bits.
-fn shift_end_refusals(plate: Plate) -> Plate {
-    let a = shift_row(plate, 2, 2147483647, 0, 0);
-    let b = shift_row(a, 2, 0, -2147483648, 0);
-    shift_row(b, 4, 0, 0, -2147483648)
+fn shift_end_refusals(rt: &impl Print, plate: Plate) -> io::Result<Plate> {
+    let a = shift_row(rt, plate, 2, 2147483647, 0, 0)?;
+    let b = shift_row(rt, a, 2, 0, -2147483648, 0)?;
+    shift_row(rt, b, 4, 0, 0, -2147483648)
 }
 
 // From one end of the grid to the other: the longest move that there is, and its way back, which no 32-bit number holds.
-fn shift_across() {
+fn shift_across(rt: &impl Print) -> io::Result<()> {
     let a = placed(plate::empty(), 0, 6, &[0, 0, L, 4, 0, L, 0, 4, L]);
-    let b = shift_row(a, 6, 0, 0, -2147483648);
-    let c = undo_row(b);
-    shift_row(c, 6, 0, 0, 1);
+    let b = shift_row(rt, a, 6, 0, 0, -2147483648)?;
+    let c = undo_row(rt, b)?;
+    shift_row(rt, c, 6, 0, 0, 1)?;
+    Ok(())
 }
 
 // Moves that are served: by nothing, and to the end of the grid, where part 2 leaves the triangle of part 4 with slot 5 and meets it
 // with slots 7 and 9. One further is refused.
-fn shifts() {
-    say(b"Further rows of shift\n");
-    let same = shift_end_refusals(shift_refusals(shift_plate()));
-    let a = shift_row(same, 2, 0, 0, 0);
-    let b = shift_row(a, 2, -L, 0, 0);
-    let c = shift_row(b, 2, -1, 0, 0);
-    undo_row(c);
-    shift_across();
-    say(b"Undo of the empty plate\n");
-    undo_row(plate::empty());
+fn shifts(rt: &impl Print) -> io::Result<()> {
+    say(rt, b"Further rows of shift\n")?;
+    let same = shift_end_refusals(rt, shift_refusals(rt, shift_plate())?)?;
+    let a = shift_row(rt, same, 2, 0, 0, 0)?;
+    let b = shift_row(rt, a, 2, -L, 0, 0)?;
+    let c = shift_row(rt, b, 2, -1, 0, 0)?;
+    undo_row(rt, c)?;
+    shift_across(rt)?;
+    say(rt, b"Undo of the empty plate\n")?;
+    undo_row(rt, plate::empty())?;
+    Ok(())
 }
 
 // Part 0 has A and P4's second triangle, which have an edge in common; part 1 has P1's second, part 2 P2's second: open shells.
@@ -303,24 +325,27 @@ fn parts_plate() -> Plate {
 }
 
 // What parts refuses, and in which order. Parts 3 and 4 have no triangle.
-fn parts_refusals(plate: Plate) {
-    parts_row(plate, 16, 17);
-    parts_row(plate, 3, 16);
-    parts_row(plate, 3, 4);
-    parts_row(plate, 0, 4);
-    parts_row(plate, 3, 3);
+fn parts_refusals(rt: &impl Print, plate: Plate) -> io::Result<()> {
+    parts_row(rt, plate, 16, 17)?;
+    parts_row(rt, plate, 3, 16)?;
+    parts_row(rt, plate, 3, 4)?;
+    parts_row(rt, plate, 0, 4)?;
+    parts_row(rt, plate, 3, 3)
 }
 
-fn parts() {
-    say(b"Further rows of parts\nfour triangles of three parts: ");
+fn parts(rt: &impl Print) -> io::Result<()> {
+    say(
+        rt,
+        b"Further rows of parts\nfour triangles of three parts: ",
+    )?;
     let plate = parts_plate();
-    say_plate(plate);
-    parts_refusals(plate);
-    parts_row(plate, 0, 0);
-    parts_row(plate, 0, 1);
-    parts_row(plate, 1, 0);
-    parts_row(plate, 0, 2);
-    parts_row(plate, 2, 1);
+    say_plate(rt, plate)?;
+    parts_refusals(rt, plate)?;
+    parts_row(rt, plate, 0, 0)?;
+    parts_row(rt, plate, 0, 1)?;
+    parts_row(rt, plate, 1, 0)?;
+    parts_row(rt, plate, 0, 2)?;
+    parts_row(rt, plate, 2, 1)
 }
 
 // Of a block from (l,l,l) to (h,h,h) the bottom, the top and the front, in six slots; then its back, its left and its right. A face has two
@@ -355,49 +380,49 @@ fn block(plate: Plate, slot: usize, part: usize, low: i32, high: i32) -> Plate
 }
 
 // A pin in a block; then the block with a hollow, given by an inner skin, and the pin in it; and a pin in what is left of the block.
-fn swallowed() -> Plate {
-    say(b"a pin in a block: ");
+fn swallowed(rt: &impl Print) -> io::Result<Plate> {
+    say(rt, b"a pin in a block: ")?;
     let pin = block(block(plate::empty(), 0, 0, 0, 20), 12, 1, 8, 9);
-    say_plate(pin);
-    parts_row(pin, 0, 1);
-    parts_row(pin, 1, 0);
-    say(b"the same with a hollow around the pin: ");
+    say_plate(rt, pin)?;
+    parts_row(rt, pin, 0, 1)?;
+    parts_row(rt, pin, 1, 0)?;
+    say(rt, b"the same with a hollow around the pin: ")?;
     let hollow = block(pin, 24, 0, 4, 16);
-    say_plate(hollow);
-    parts_row(hollow, 0, 1);
-    parts_row(hollow, 1, 0);
-    say(b"another pin outside of the hollow: ");
+    say_plate(rt, hollow)?;
+    parts_row(rt, hollow, 0, 1)?;
+    parts_row(rt, hollow, 1, 0)?;
+    say(rt, b"another pin outside of the hollow: ")?;
     let two = block(hollow, 36, 2, 17, 18);
-    say_plate(two);
-    parts_row(two, 0, 2);
-    parts_row(two, 1, 2);
-    two
+    say_plate(rt, two)?;
+    parts_row(rt, two, 0, 2)?;
+    parts_row(rt, two, 1, 2)?;
+    Ok(two)
 }
 
 // Open shells: of the pin, which is asked against itself too, and then of the block.
-fn opened(plate: Plate) {
-    let pin = lift_row(plate, 23);
-    parts_row(pin, 0, 1);
-    parts_row(pin, 1, 0);
-    parts_row(pin, 1, 1);
-    let both = lift_row(pin, 0);
-    parts_row(both, 0, 1);
-    parts_row(both, 1, 0);
+fn opened(rt: &impl Print, plate: Plate) -> io::Result<()> {
+    let pin = lift_row(rt, plate, 23)?;
+    parts_row(rt, pin, 0, 1)?;
+    parts_row(rt, pin, 1, 0)?;
+    parts_row(rt, pin, 1, 1)?;
+    let both = lift_row(rt, pin, 0)?;
+    parts_row(rt, both, 0, 1)?;
+    parts_row(rt, both, 1, 0)
 }
 
-fn main() {
-    turns();
-    sides();
-    flats();
-    pairs();
-    wires_on_a_triangle();
-    wires_and_points();
-    segments();
-    lists();
-    changes();
-    place_list_refusals(place_number_refusals());
-    lifts();
-    shifts();
-    parts();
-    opened(swallowed());
+fn main(rt: HostRuntime) -> io::Result<()> {
+    turns(&rt)?;
+    sides(&rt)?;
+    flats(&rt)?;
+    pairs(&rt)?;
+    wires_on_a_triangle(&rt)?;
+    wires_and_points(&rt)?;
+    segments(&rt)?;
+    lists(&rt)?;
+    changes(&rt)?;
+    place_list_refusals(&rt, place_number_refusals(&rt)?)?;
+    lifts(&rt)?;
+    shifts(&rt)?;
+    parts(&rt)?;
+    opened(&rt, swallowed(&rt)?)
 }

@@ -1,12 +1,13 @@
 // Reads a job sheet from standard input and writes its answer to standard output. Where standard input can't be read or standard output
-// can't be written, a line on standard error says so.
+// can't be written, a line on standard error says so, and the status is 1.
 #![tactic(auto)]
 
 ghost use Rattle.io.specs.Counts.{IsPrefixLen};
 ghost use Rattle.sheet.specs.Replies.{got_count, Replied};
 
 use answering::{LONGEST, TEXT};
-use libc::{STDERR_FILENO, STDIN_FILENO, STDOUT_FILENO};
+use std::io::Read;
+use std::process::ExitCode;
 
 // What reading gave: so many bytes at the front of the buffer, up to the end of the input or of the buffer; or a read that failed.
 #[derive(Clone, Copy)]
@@ -16,20 +17,20 @@ pub enum Got {
 }
 
 // Reads until the input ends or the buffer is full.
-fn read_all(fd: i32, buf: &mut [u8]) -> Got
+fn read_all<R: Read>(input: &mut R, buf: &mut [u8]) -> Got
     ensures { IsPrefixLen (got_count result) buf.new }
 {
     let mut done: usize = 0;
     while done < buf.len() {
-        let got = libc::read(fd, &mut buf[done..]);
-        if got < 0 {
-            return Got::Failed;
+        match input.read(&mut buf[done..]) {
+            Err(_) => return Got::Failed,
+            Ok(more) => {
+                if more == 0 {
+                    return Got::Bytes(done);
+                }
+                done += more;
+            }
         }
-        let more = io::count(got, &buf[done..]);
-        if more == 0 {
-            return Got::Bytes(done);
-        }
-        done += more;
     }
     Got::Bytes(done)
 }
@@ -52,19 +53,22 @@ fn reply_to(got: Got, sheet: &[u8], text: &mut [u8; TEXT]) -> Reply
     }
 }
 
+// Where standard error can't be written either, the status alone tells.
+fn fail(rt: &impl Eprint, line: &str) -> ExitCode {
+    let _ = rt.eprintln(line);
+    ExitCode::FAILURE
+}
+
 // There is room for one byte more than a sheet may have, so that a longer one is noticed.
-fn main() {
+fn main(rt: HostRuntime) -> ExitCode {
     let mut sheet = [0u8; LONGEST + 1];
     let mut text = [0u8; TEXT];
-    let got = read_all(STDIN_FILENO, &mut sheet[..]);
+    let got = read_all(&mut rt.stdin(), &mut sheet[..]);
     match reply_to(got, &sheet[..], &mut text) {
-        Reply::Unread => {
-            io::write_all(STDERR_FILENO, b"sheet: standard input can't be read\n");
-        }
-        Reply::Made(size) => {
-            if !io::write_all(STDOUT_FILENO, &text[..size]) {
-                io::write_all(STDERR_FILENO, b"sheet: standard output can't be written\n");
-            }
-        }
+        Reply::Unread => fail(&rt, "sheet: standard input can't be read"),
+        Reply::Made(size) => match rt.write_all(&text[..size]) {
+            Err(_) => fail(&rt, "sheet: standard output can't be written"),
+            Ok(()) => ExitCode::SUCCESS,
+        },
     }
 }

@@ -1,9 +1,5 @@
 -- `printing::saying::say_nine` is safe: the loop ends, since a tenth of a number above 1 is smaller. Assumes nothing.
-use Rattle.std.proofs.Common.{rules}
 use Rattle.printing.proofs.saying.say_nine.Given as goal
 
-abbrev pub invariant-loop-least : goal.invariant-loop-least
-invariant-loop-least l = Unit {0}
-
 abbrev pub decreases-loop-least : goal.decreases-loop-least
-decreases-loop-least l = least
+decreases-loop-least g l = l.least
