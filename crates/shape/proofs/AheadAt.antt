@@ -17,6 +17,7 @@ use Rattle.algebra.proofs.Certificate.{Rel, ◌≦◌, ◌≺◌, ◌≐◌, hyp
 use Rattle.shape.specs.Points.{Point, Shape, coord}
 use Rattle.shape.specs.Signs.{turn_in, side}
 use Rattle.shape.specs.Sharing.{total, weigh}
+use Rattle.shape.proofs.Steps.{ahead_y}
 use Rattle.shape.proofs.Symbols.{O, PointE, point, side_of}
 use Rattle.shape.proofs.Meeting.{point_with, coord_point_with, NonNegative, totalℤ, weighℤ, total_natural, weigh_natural}
 use Rattle.shape.specs.Inside.{Ahead}
@@ -103,7 +104,7 @@ module _ (a b c d : Point) where
       by_list (u ∷ v ∷ w ∷ []) l e m =
           by_weights u v w
           (0<-pos (total (u ∷ v ∷ w ∷ [])) (omega (arith, e, h.of_shape.some)))
-          (m 1 (omega arith) ∙ h.same_y ∙ ap (λ (s : ℕ). pos s *ℤ coord 1 d) (sym e))
+          (m 1 (omega arith) ∙ ahead_y h ∙ ap (λ (s : ℕ). pos s *ℤ coord 1 d) (sym e))
           (m 2 (omega arith) ∙ h.same_z ∙ ap (λ (s : ℕ). pos s *ℤ coord 2 d) (sym e))
           (subst (λ (t : ℤ). (sum u v w *ℤ coord 0 d) <ℤ t) (sym (m 0 (omega arith)))
           (subst (λ (s : ℕ). (pos s *ℤ coord 0 d) <ℤ coord 0 h.x) (sym e) h.larger_x))

@@ -1,28 +1,29 @@
 -- A triangle is counted, for every n large enough, exactly where the levels of its edges and of its plane are alike (specs/InsideTest.antt). For n the
--- turns and the side are a power of n times a polynomial in n, so Eventually.antt gives their signs. The polynomials of the edges add up to a
+-- turns and the side are a power of n times a polynomial in n (Enlarged.antt), so Eventually.antt gives their signs. The polynomials of the edges add up to a
 -- positive multiple of the shadow's turn: where they are alike the shadow is not flat and has their sign. Assumes nothing.
 use mathlib.Core.Path.{◌≡◌, refl, ◌∙◌, subst}
 use mathlib.Core.List.{List, [], ◌∷◌}
 use mathlib.Core.Logic.{◌↔◌, ◌⊎◌, inl, inr}
-use Prim.Native.Nat.{ℕ, zero, suc, ◌+◌, ◌≤◌}
+use Prim.Native.Nat.{ℕ, ◌+◌, ◌≤◌}
 use native.Mathlib.Omega.{arith}
 use lib.Dec.{eqb}
 use lib.IntN.{ℤ, pos, ◌+ℤ◌, ◌*ℤ◌, *ℤ_comm}
 use lib.Signed.{◌≤ℤ◌, ◌<ℤ◌}
-use Rattle.algebra.proofs.Expression.{Ex, var, lit, ◌⊞◌, ◌⊟◌, ◌⊠◌, neg}
+use Rattle.algebra.proofs.Expression.{var, lit, ◌⊞◌, ◌⊟◌, ◌⊠◌, neg}
 use Rattle.algebra.proofs.Solver.{ring}
 use Rattle.algebra.proofs.Order.{ThreeWay, minus, none, plus, three_way, weak, 0<-pos, 0<-mul, lt_or_ge}
 use Rattle.algebra.proofs.Certificate.{Rel, ◌≦◌, ◌≺◌, ◌≐◌, hyp, eqn, sqr, num, ◌⊕◌, ◌⊗◌, prove≤, prove<, prove≡, prove⊥}
 use Rattle.shape.specs.Points.{Point, Shape, coord}
-use Rattle.shape.specs.Signs.{turn, turn_in, side}
+use Rattle.shape.specs.Signs.{turn, turn_in}
 use Rattle.shape.specs.Verdicts.{Says}
 use Rattle.shape.specs.Inside.{square, enlarged, nudged, shadow_of, Counted}
 use Rattle.shape.specs.InsideTest.{leading, edge_numbers, plane_numbers, edge_level, plane_level, all_alike, is_ahead}
-use Rattle.shape.proofs.Symbols.{values, O, PointE, point, minor_e, row_e, side_of, turn_e}
+use Rattle.shape.proofs.Symbols.{values, O, turn_e}
 use Rattle.shape.proofs.FlatLaws.{flat_in_plane}
 use Rattle.shape.proofs.VerdictLaws.{says_yes, says_no, says_both, says_same}
-use Rattle.shape.proofs.Eventually.{at, enough_for, enough_positive, Level, below, nought, above, leads, leading_none}
-use Rattle.shape.proofs.AheadAt.{turn_in_e, Fits, ahead_fits}
+use Rattle.shape.proofs.Eventually.{enough_for, enough_positive, Level, below, nought, above, leads, leading_none}
+use Rattle.shape.proofs.AheadAt.{Fits, ahead_fits}
+use Rattle.shape.proofs.Enlarged.{edge_at, plane_at, large_shadow, large_edge, large_plane, edges_sum}
 
 -- ---- two numbers of one sign: their product is positive
 abbrev Alike : ℤ → ℤ → Type 0
@@ -124,59 +125,6 @@ module _ (u v : ℤ) {k l x y : ℤ} (k_some : pos 0 <ℤ k) (l_some : pos 0 <�
   larger =
       prove< vs (given (O ≺ var 2 ⊠ var 3)) O (var 4 ⊠ var 5) (num 1)
       (hyp 0 ⊗ hyp 1 ⊗ hyp 4 ⊕ eqn 2 (neg (var 1 ⊠ var 3)) ⊕ eqn 3 (neg (var 4))) tt tt refl k_some l_some x_is y_is
-
--- ---- for n: a power of n times a polynomial in n
--- The polynomials of the edge u → v and of the plane.
-abbrev edge_at : ℕ → (p u v : Point) → ℤ
-edge_at n p u v = at n (edge_numbers (shadow_of u) (shadow_of v) (shadow_of p))
-
-abbrev plane_at : ℕ → (p a b c : Point) → ℤ
-plane_at n p a b c = at n (plane_numbers a b c p)
-
-module _ (n : ℕ) (p a b c : Point) where
-  abbrev ρ : List ℤ
-  ρ = coord 0 a ∷ coord 1 a ∷ coord 2 a ∷ coord 0 b ∷ coord 1 b ∷ coord 2 b ∷ coord 0 c ∷ coord 1 c ∷ coord 2 c
-      ∷ coord 0 p ∷ coord 1 p ∷ coord 2 p ∷ pos n ∷ []
-
-  abbrev n1 : Ex
-  n1 = var 12
-
-  abbrev n2 : Ex
-  n2 = n1 ⊠ n1
-
-  -- Point i enlarged, and the point moved.
-  abbrev large_e : ℕ → PointE
-  large_e i j = n2 ⊠ point i j
-
-  abbrev moved_e : PointE
-  moved_e zero = n2 ⊠ point 3 0
-  moved_e (suc zero) = n2 ⊠ point 3 1 ⊞ n1
-  moved_e (suc (suc k)) = n2 ⊠ point 3 2 ⊞ lit (pos 1)
-
-  -- A polynomial, by Horner's rule.
-  abbrev three_e : Ex → Ex → Ex → Ex
-  three_e x y z = ((O ⊠ n1 ⊞ x) ⊠ n1 ⊞ y) ⊠ n1 ⊞ z
-
-  abbrev edge_e : ℕ → ℕ → Ex
-  edge_e i j = three_e (turn_in_e 1 2 (point i) (point j) (point 3)) (point i 2 ⊟ point j 2) (point j 1 ⊟ point i 1)
-
-  abbrev normal_e : ℕ → ℕ → Ex
-  normal_e i j = minor_e i j (row_e (point 0) (point 2)) (row_e (point 1) (point 2))
-
-  abbrev plane_e : Ex
-  plane_e = three_e (side_of (point 0) (point 1) (point 2) (point 3)) (O ⊟ normal_e 2 0) (O ⊟ normal_e 0 1)
-
-  large_shadow : turn_in 1 2 (enlarged n a) (enlarged n b) (enlarged n c) ≡ square n *ℤ square n *ℤ turn_in 1 2 a b c
-  large_shadow = ring ρ (turn_in_e 1 2 (large_e 0) (large_e 1) (large_e 2)) (n2 ⊠ n2 ⊠ turn_in_e 1 2 (point 0) (point 1) (point 2)) tt refl
-
-  large_edge : turn_in 1 2 (enlarged n a) (enlarged n b) (nudged n p) ≡ square n *ℤ edge_at n p a b
-  large_edge = ring ρ (turn_in_e 1 2 (large_e 0) (large_e 1) moved_e) (n2 ⊠ edge_e 0 1) tt refl
-
-  large_plane : side (enlarged n a) (enlarged n b) (enlarged n c) (nudged n p) ≡ square n *ℤ square n *ℤ plane_at n p a b c
-  large_plane = ring ρ (side_of (large_e 0) (large_e 1) (large_e 2) moved_e) (n2 ⊠ n2 ⊠ plane_e) tt refl
-
-  edges_sum : edge_at n p a b +ℤ edge_at n p b c +ℤ edge_at n p c a ≡ square n *ℤ turn_in 1 2 a b c
-  edges_sum = ring ρ (edge_e 0 1 ⊞ edge_e 1 2 ⊞ edge_e 2 0) (n2 ⊠ turn_in_e 1 2 (point 0) (point 1) (point 2)) tt refl
 
 -- Three alike that add up to a positive multiple of N have its sign.
 sum_alike : (k N e f g : ℤ) → pos 0 <ℤ k → e +ℤ f +ℤ g ≡ k *ℤ N → Alike e f → Alike e g → Alike e N

@@ -14,6 +14,7 @@ use Rattle.shape.specs.Verdicts.{Says}
 use Rattle.shape.specs.Lists.{held_by, HowMany, none, one, pass}
 use Rattle.shape.specs.Shells.{Edge, reverse, same_edge, edges_of, occurs, each_once, is_closed}
 use Rattle.shape.proofs.VerdictLaws.{says_both, says_same, says_yes}
+use Rattle.shape.proofs.Steps.{each_once_step}
 use Rattle.shape.proofs.FlatLaws.{is_flat_law}
 use Rattle.shape.proofs.ListLaws.{how_many_unique, how_many_next, how_many_most, how_many_as}
 
@@ -70,7 +71,7 @@ EachOnce es all = (e : Edge) (n : ℕ) → HowMany (OneEdge e) es (suc n) → On
 
 each_says : (es all : List Edge) → Says (each_once es all) (EachOnce es all)
 each_says [] all = says_yes (λ e n h. absurd (omega (arith, how_many_most h)))
-each_says (f ∷ es) all = says_same (to, from) (says_both (once_says f all) (says_both (once_says (reverse f) all) (each_says es all)))
+each_says (f ∷ es) all = says_same (to, from) (each_once_step f es all (once_says f all) (once_says (reverse f) all) (each_says es all))
   where
     to : Once f all × (Once (reverse f) all × EachOnce es all) → EachOnce (f ∷ es) all
     to h e n (one is k) = (how_many_as (edge_as is) h.0, how_many_as (edge_as (edge_turned is)) h.1.0)

@@ -14,7 +14,8 @@ use Rattle.shape.specs.Points.{Point, Shape, coord}
 use Rattle.shape.specs.Signs.{turn, turn_in}
 use Rattle.shape.specs.Flat.{OnLine, Flat, is_zero, all_below, is_flat}
 use Rattle.shape.specs.Verdicts.{Says}
-use Rattle.shape.proofs.VerdictLaws.{says_yes, says_no, says_both, says_same, says_fixed}
+use Rattle.shape.proofs.VerdictLaws.{says_yes, says_no, says_same, says_fixed}
+use Rattle.shape.proofs.Steps.{below_step}
 
 -- A coordinate against itself shows no turn; two coordinates that trade places turn the sign.
 pub turn_in_same : (i : ℕ) (a b c : Point) → turn_in i i a b c ≡ pos 0
@@ -43,9 +44,9 @@ pub on_line : {n : ℕ} (a b c : Point) → ((i j : ℕ) → i < j → j < n →
 on_line a b c h i j li lj = by_order (compared i j)
   where
     by_order : (i < j) ⊎ ((i ≡ j) ⊎ (j < i)) → turn_in i j a b c ≡ pos 0
-    by_order (inl l) = h i j l lj
+    by_order (inl l) = h i j l (omega arith)
     by_order (inr (inl e)) = subst (λ (k : ℕ). turn_in i k a b c ≡ pos 0) e (turn_in_same i a b c)
-    by_order (inr (inr l)) = turn_in_trade j i a b c ∙ ap neg_ℤ (h j i l li)
+    by_order (inr (inr l)) = turn_in_trade j i a b c ∙ ap neg_ℤ (h j i l (omega arith))
 
 -- A triangle in the plane is flat exactly where its turn is zero.
 pub flat_in_plane : (a b c : Point) → Flat 2 (a ∷ b ∷ c ∷ []) ↔ (turn a b c ≡ pos 0)
@@ -82,8 +83,7 @@ zero_says (negsuc n) = says_no (λ e. let y : ◌≡◌ {A = ℕ} 0 1 = cc in om
 -- A test of each i below n that says whether F i holds: together they say whether it holds of all.
 pub below_says : (n : ℕ) (F : ℕ → Type 0) (test : ℕ → Bool) → ((i : ℕ) → Says (test i) (F i)) → Says (all_below n test) ((i : ℕ) → i < n → F i)
 below_says zero F test says = says_yes (λ i l. absurd (omega arith))
-below_says (suc n) F test says =
-    says_same ((λ h. last_or_before h.0 h.1), (λ h. (h n (omega arith), λ i l. h i (omega arith)))) (says_both (says n) (below_says n F test says))
+below_says (suc n) F test says = below_step n F test says (below_says n F test says) last_or_before
   where
     last_or_before : F n → ((i : ℕ) → i < n → F i) → (i : ℕ) → i < suc n → F i
     last_or_before last before i l = by_order (compared i n)

@@ -12,12 +12,14 @@ pub mod TurnSize
 pub mod Dependence
 pub mod Witnesses
 pub mod VerdictLaws
+pub mod Steps
 pub mod FlatLaws
 pub mod Lines
 pub mod Thin
 pub mod Edges
 pub mod TriangleLeaves
 pub mod SegmentLeaves
+pub mod PlaneSteps
 pub mod PlaneTest
 pub mod Standings
 pub mod Planes
@@ -25,10 +27,12 @@ pub mod Segments
 pub mod Dropping
 pub mod SpaceLeaves
 pub mod SpaceTest
+pub mod WireSteps
 pub mod WireTest
 pub mod ListLaws
 pub mod Eventually
 pub mod AheadAt
+pub mod Enlarged
 pub mod AheadTest
 pub mod InsideTest
 pub mod TriangleLists

@@ -11,6 +11,7 @@ use lib.IntN.{ℤ, pos, nat_abs, ◌+ℤ◌, ◌*ℤ◌}
 use lib.Signed.{◌≤ℤ◌, ◌<ℤ◌, yes_non_neg, pos-nat_abs}
 use Rattle.shape.specs.Points.{Point, Shape, coord}
 use Rattle.shape.specs.Sharing.{total, weigh, Share}
+use Rattle.shape.proofs.Steps.{sums_agree, some_weight}
 
 -- ---- a point with given coordinates
 abbrev pub point_with : ℕ → (ℕ → ℤ) → Point
@@ -39,13 +40,13 @@ share_of_weights {n} {P} {Q} h =
     record {
       s = total h.us;
       x = point_with n sums;
-      of_first = record { weights = h.us; each = h.us_each; sum = refl; some = h.some; mixed = λ i l. sym (coord_point_with n sums i l) };
+      of_first = record { weights = h.us; each = h.us_each; sum = refl; some = omega (arith, h.some); mixed = λ i l. sym (coord_point_with n sums i (omega (arith, l))) };
       of_second = record {
         weights = h.ws;
         each = h.ws_each;
         sum = sym h.same;
-        some = h.some;
-        mixed = λ i l. sym (h.agree i l) ∙ sym (coord_point_with n sums i l);
+        some = omega (arith, h.some);
+        mixed = λ i l. sym (h.agree i (omega (arith, l))) ∙ sym (coord_point_with n sums i (omega (arith, l)));
       };
     }
   where
@@ -60,8 +61,8 @@ weights_of_share h =
       us_each = h.of_first.each;
       ws_each = h.of_second.each;
       same = h.of_first.sum ∙ sym h.of_second.sum;
-      some = omega (arith, h.of_first.sum, h.of_first.some);
-      agree = λ i l. h.of_first.mixed i l ∙ sym (h.of_second.mixed i l);
+      some = some_weight h;
+      agree = sums_agree h;
     }
 
 -- One point with one name, or weights that agree: the same.

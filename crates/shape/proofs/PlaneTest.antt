@@ -15,11 +15,12 @@ use Rattle.shape.specs.Flat.{Flat}
 use Rattle.shape.specs.Verdicts.{Says}
 use Rattle.shape.specs.PlaneTest.{in_left_order, sorted, triangle_past_one, triangle_past_two, triangle_sorted, triangle_test, segment_past_one, segment_past_two, segment_test}
 use Rattle.shape.proofs.Symbols.{values, O, turn_e}
-use Rattle.shape.proofs.Trading.{In, first, among_itself, share_trade, share_among, share_turned, share_turned_twice, share_mirrored}
+use Rattle.shape.proofs.Trading.{In, first, among_itself, share_trade, share_among, share_turned, share_turned_twice}
 use Rattle.shape.proofs.Witnesses.{point_in_triangle}
 use Rattle.shape.proofs.FlatLaws.{flat_in_plane}
 use Rattle.shape.proofs.VerdictLaws.{says_yes, says_by_sign, says_same}
-use Rattle.shape.proofs.Edges.{Right, NotRight, Left, right_e, left_e, left_on, left_back, right_mirrored}
+use Rattle.shape.proofs.PlaneSteps.{left_order_step}
+use Rattle.shape.proofs.Edges.{Right, NotRight, Left, right_e, left_e, left_on, left_back}
 use Rattle.shape.proofs.TriangleLeaves as triangle
 use Rattle.shape.proofs.SegmentLeaves as segment
 
@@ -62,10 +63,7 @@ turns_left a b c never_flat not_right = by_sign (three_way (turn a b c))
 says_in_left_order : (P : Shape) (test : Point → Point → Point → Bool) →
     ((a b c : Point) → Left a b c → Says (test a b c) (Share 2 P (a ∷ b ∷ c ∷ []))) →
     (a b c : Point) → (Flat 2 (a ∷ b ∷ c ∷ []) → ⊥) → Says (in_left_order test a b c) (Share 2 P (a ∷ b ∷ c ∷ []))
-says_in_left_order P test says a b c never_flat =
-    says_by_sign (turn a b c)
-    (λ h. says_same (share_mirrored P a b c) (says a c b (right_mirrored a b c h)))
-    (λ h. says a b c (turns_left a b c never_flat h))
+says_in_left_order P test says a b c never_flat = left_order_step P test says a b c (turns_left a b c never_flat)
 
 -- ---- the tests
 -- Two triangles in the plane, neither flat.

@@ -18,6 +18,7 @@ use Rattle.shape.proofs.Symbols.{values, O, turn_e}
 use Rattle.shape.proofs.Trading.{In, first, second, third, among_itself, share_trade, share_among}
 use Rattle.shape.proofs.Witnesses.{point_in_triangle, segments_cross}
 use Rattle.shape.proofs.VerdictLaws.{says_yes, says_no, says_by_sign}
+use Rattle.shape.proofs.Steps.{corner_in_step}
 use Rattle.shape.proofs.Edges.{Right, NotRight, Left, NotLeft, right_e, not_right_e, left_e, right_carries, all_right, all_left, right_on, right_back, not_right_on, not_right_back, right_mirrored, not_right_mirrored, beside_first, beside_second, beside_third}
 
 -- p1 is strictly right of r2 → p2, and not of p2 → q2.
@@ -51,9 +52,7 @@ module _ (p1 q1 r1 p2 q2 r2 : Point) (left1 : Left p1 q1 r1) (left2 : Left p2 q2
 
   -- ---- p1 → q1 passes beyond p2
   says_corner_in : NotRight r2 p2 q1 → Right p1 p2 q1 → Says (corner_in p1 q1 r1 p2) Meet
-  says_corner_in back beyond =
-      says_by_sign (turn p1 p2 r1) outside_r1p1
-      (λ within. says_by_sign (turn q1 r1 p2) (outside_q1r1 within) (λ h. says_yes (inside within h)))
+  says_corner_in back beyond = corner_in_step p1 q1 r1 p2 outside_r1p1 outside_q1r1 inside
     where
       outside_r1p1 : Right p1 p2 r1 → Says false Meet
       outside_r1p1 h =

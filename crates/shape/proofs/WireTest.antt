@@ -1,30 +1,26 @@
 -- The tests of shapes that may be flat (specs/WireTest.antt) say yes exactly when the two shapes have a point in common: two segments, a segment
 -- and a triangle, two triangles, whatever their corners are. Assumes nothing.
-use mathlib.Core.Path.{◌≡◌, refl, subst₂}
+use mathlib.Core.Path.{◌≡◌}
 use mathlib.Core.Bool.{Bool}
 use mathlib.Core.List.{[], ◌∷◌}
 use mathlib.Core.Logic.{inl, inr}
 use Prim.Native.Nat.{ℕ, zero, suc, ◌<◌}
 use native.Mathlib.Omega.{arith}
 use lib.Dec.{eqb}
-use lib.IntN.{ℤ, pos, negsuc, neg_ℤ}
+use lib.IntN.{ℤ, pos, negsuc}
 use lib.Signed.{◌<ℤ◌, <ℤ_irrefl}
 use Rattle.algebra.proofs.Order.{le_of_lt, ≤ℤ-<ℤ-trans}
-use Rattle.algebra.proofs.Expression.{var, neg}
-use Rattle.algebra.proofs.Certificate.{◌≺◌, hyp, num, prove<}
-use Rattle.shape.specs.Points.{Point, Shape, coord}
+use Rattle.shape.specs.Points.{Point, coord}
 use Rattle.shape.specs.Signs.{turn_in, side, sign, digit}
 use Rattle.shape.specs.Sharing.{Share}
-use Rattle.shape.specs.Flat.{Flat}
 use Rattle.shape.specs.Verdicts.{Says}
 use Rattle.shape.specs.SpaceTest.{Standing, beside, within, alone, standing, pattern, by_standing, placed, last_signs}
-use Rattle.shape.specs.WireTest.{both_below, stretches_meet, one_side, shadows_meet, segments_test, either_edge, segment_triangle_test, close_test, crossing_test, triangles_test}
-use Rattle.shape.proofs.Symbols.{O}
+use Rattle.shape.specs.WireTest.{both_below, stretches_meet, one_side, shadows_meet, segments_test, segment_triangle_test, close_test, crossing_test, triangles_test}
 use Rattle.shape.proofs.Trading.{share_trade}
-use Rattle.shape.proofs.VerdictLaws.{says_no, says_less, says_both, says_either, says_neither, says_by, says_same}
-use Rattle.shape.proofs.FlatLaws.{turn_in_trade, zero_says, below_says, is_flat_law}
+use Rattle.shape.proofs.VerdictLaws.{says_no, says_less, says_both, says_neither, says_by, says_same}
+use Rattle.shape.proofs.FlatLaws.{zero_says, below_says, is_flat_law}
 use Rattle.shape.proofs.Segments.{OneSide, BothBelow, side_in, Touching, touching_is_meeting}
-use Rattle.shape.proofs.Thin.{two_edges}
+use Rattle.shape.proofs.WireSteps.{Along, SeenIn, Without, Asked, along_each, seen_each, one_side_mirrored, edges_say}
 use Rattle.shape.proofs.Standings.{Fits, fits}
 use Rattle.shape.proofs.SpaceTest.{in_plane, crossing, beside_apart, segment_space_test_law}
 
@@ -54,71 +50,27 @@ level_says (pos (suc n)) = zero_says (pos (suc n))
 level_says (negsuc n) = zero_says (negsuc n)
 
 -- ---- two segments
--- Coordinates that trade places turn both signs.
-one_side_mirrored : (i j : ℕ) (a b c d : Point) → OneSide (turn_in j i a b c) (turn_in j i a b d) → OneSide (turn_in i j a b c) (turn_in i j a b d)
-one_side_mirrored i j a b c d h =
-    mirrored (turn_in i j a b c) (turn_in i j a b d) (subst₂ OneSide (turn_in_trade i j a b c) (turn_in_trade i j a b d) h)
-  where
-    mirrored : (x y : ℤ) → OneSide (neg_ℤ x) (neg_ℤ y) → OneSide x y
-    mirrored x y (inl h) = inr (below x h.0, below y h.1)
-      where
-        below : (z : ℤ) → pos 0 <ℤ neg_ℤ z → z <ℤ pos 0
-        below z = prove< (z ∷ []) ((O ≺ neg (var 0)) ∷ []) (var 0) O (num 1) (hyp 0) tt tt refl
-    mirrored x y (inr h) = inl (above x h.0, above y h.1)
-      where
-        above : (z : ℤ) → neg_ℤ z <ℤ pos 0 → pos 0 <ℤ z
-        above z = prove< (z ∷ []) ((neg (var 0) ≺ O) ∷ []) O (var 0) (num 1) (hyp 0) tt tt refl
-
 module _ (p q r s : Point) where
-  -- What the test asks along each coordinate, and of the shadow without it.
-  abbrev Along : ℕ → Type 0
-  Along k =
-      (BothBelow (coord k p) (coord k q) (coord k r) (coord k s) → ⊥) × (BothBelow (coord k r) (coord k s) (coord k p) (coord k q) → ⊥)
-
-  abbrev SeenIn : ℕ → ℕ → Type 0
-  SeenIn i j =
-      (OneSide (turn_in i j p q r) (turn_in i j p q s) → ⊥) × (OneSide (turn_in i j r s p) (turn_in i j r s q) → ⊥)
-
-  abbrev Without : ℕ → Type 0
-  Without zero = SeenIn 1 2
-  Without (suc zero) = SeenIn 2 0
-  Without (suc (suc k)) = SeenIn 0 1
-
-  abbrev Asked : Type 0
-  Asked = ((k : ℕ) → k < 3 → Along k) × ((side p q r s ≡ pos 0) × ((k : ℕ) → k < 3 → Without k))
-
-  shadow_says : (k : ℕ) → Says (shadows_meet k p q r s) (Without k)
+  shadow_says : (k : ℕ) → Says (shadows_meet k p q r s) (Without p q r s k)
   shadow_says zero = says_neither (one_side_says (turn_in 1 2 p q r) (turn_in 1 2 p q s)) (one_side_says (turn_in 1 2 r s p) (turn_in 1 2 r s q))
   shadow_says (suc zero) = says_neither (one_side_says (turn_in 2 0 p q r) (turn_in 2 0 p q s)) (one_side_says (turn_in 2 0 r s p) (turn_in 2 0 r s q))
   shadow_says (suc (suc k)) = says_neither (one_side_says (turn_in 0 1 p q r) (turn_in 0 1 p q s)) (one_side_says (turn_in 0 1 r s p) (turn_in 0 1 r s q))
 
-  asked_says : Says (segments_test p q r s) Asked
+  asked_says : Says (segments_test p q r s) (Asked p q r s)
   asked_says =
       says_both
-      (below_says 3 Along (λ k. stretches_meet (coord k p) (coord k q) (coord k r) (coord k s))
+      (below_says _ (Along p q r s) (λ k. stretches_meet (coord k p) (coord k q) (coord k r) (coord k s))
       (λ k. says_neither (both_below_says (coord k p) (coord k q) (coord k r) (coord k s)) (both_below_says (coord k r) (coord k s) (coord k p) (coord k q))))
-      (says_both (level_says (side p q r s)) (below_says 3 Without (λ k. shadows_meet k p q r s) shadow_says))
+      (says_both (level_says (side p q r s)) (below_says _ (Without p q r s) (λ k. shadows_meet k p q r s) shadow_says))
 
   -- It asks of three coordinates what the law asks of any number.
-  seen_each : Asked → (i j : ℕ) → i < j → j < 3 → SeenIn i j
-  seen_each h zero (suc zero) ij jn = h.1.1 2 (omega arith)
-  seen_each h (suc zero) (suc (suc zero)) ij jn = h.1.1 0 (omega arith)
-  seen_each h zero (suc (suc zero)) ij jn =
-      let mirrored = h.1.1 1 (omega arith) in
-      ((λ g. mirrored.0 (one_side_mirrored 2 0 p q r s g)), (λ g. mirrored.1 (one_side_mirrored 2 0 r s p q g)))
-  seen_each h zero zero ij jn = absurd (omega arith)
-  seen_each h (suc i) zero ij jn = absurd (omega arith)
-  seen_each h (suc i) (suc zero) ij jn = absurd (omega arith)
-  seen_each h (suc (suc i)) (suc (suc zero)) ij jn = absurd (omega arith)
-  seen_each h i (suc (suc (suc j))) ij jn = absurd (omega arith)
-
-  touching : Asked → Touching 3 p q r s
+  touching : Asked p q r s → Touching 3 p q r s
   touching h = record {
     level = at;
-    first_line = λ i j ij jn. (seen_each h i j ij jn).0;
-    second_line = λ i j ij jn. (seen_each h i j ij jn).1;
-    not_below = λ k l. (h.0 k l).0;
-    not_above = λ k l. (h.0 k l).1;
+    first_line = λ i j ij jn. (seen_each p q r s h i j ij jn).0;
+    second_line = λ i j ij jn. (seen_each p q r s h i j ij jn).1;
+    not_below = λ k l. (along_each p q r s h k l).0;
+    not_above = λ k l. (along_each p q r s h k l).1;
   }
     where
       at : (i j l : ℕ) → i < j → j < l → l < 3 → side_in i j l p q r s ≡ pos 0
@@ -130,28 +82,23 @@ module _ (p q r s : Point) where
       at zero (suc (suc j)) l ij jl ln = absurd (omega arith)
       at (suc i) j l ij jl ln = absurd (omega arith)
 
-  asked : Touching 3 p q r s → Asked
-  asked t = (λ k l. (t.not_below k l, t.not_above k l), (t.level 0 1 2 (omega arith) (omega arith) (omega arith), without_each))
+  asked : Touching 3 p q r s → Asked p q r s
+  asked t = (λ k l. (t.not_below k (omega (arith, l)), t.not_above k (omega (arith, l))), (t.level 0 1 2 (omega arith) (omega arith) (omega arith), λ k l. without_each k))
     where
-      seen_in_law : (i j : ℕ) → i < j → j < 3 → SeenIn i j
+      seen_in_law : (i j : ℕ) → i < j → j < 3 → SeenIn p q r s i j
       seen_in_law i j ij jn = (t.first_line i j ij jn, t.second_line i j ij jn)
 
-      without_each : (k : ℕ) → k < 3 → Without k
-      without_each zero l = seen_in_law 1 2 (omega arith) (omega arith)
-      without_each (suc zero) l =
+      without_each : (k : ℕ) → Without p q r s k
+      without_each zero = seen_in_law 1 2 (omega arith) (omega arith)
+      without_each (suc zero) =
           let s02 = seen_in_law 0 2 (omega arith) (omega arith) in
           ((λ g. s02.0 (one_side_mirrored 0 2 p q r s g)), (λ g. s02.1 (one_side_mirrored 0 2 r s p q g)))
-      without_each (suc (suc k)) l = seen_in_law 0 1 (omega arith) (omega arith)
+      without_each (suc (suc k)) = seen_in_law 0 1 (omega arith) (omega arith)
 
   pub segments_test_law : Says (segments_test p q r s) (Share 3 (p ∷ q ∷ []) (r ∷ s ∷ []))
   segments_test_law = says_same ((λ h. (touching_is_meeting p q r s).0 (touching h)), (λ m. asked ((touching_is_meeting p q r s).1 m))) asked_says
 
 -- ---- a triangle that may be flat
--- A flat triangle against any shape, by a test of its edges.
-edges_say : (Q : Shape) (test : Point → Point → Bool) → ((x y : Point) → Says (test x y) (Share 3 (x ∷ y ∷ []) Q)) → (a b c : Point) →
-    Flat 3 (a ∷ b ∷ c ∷ []) → Says (either_edge test a b c) (Share 3 (a ∷ b ∷ c ∷ []) Q)
-edges_say Q test says a b c flat = says_same (two_edges a b c flat) (says_either (says a b) (says b c))
-
 pub segment_triangle_test_law : (p q a b c : Point) → Says (segment_triangle_test p q a b c) (Share 3 (p ∷ q ∷ []) (a ∷ b ∷ c ∷ []))
 segment_triangle_test_law p q a b c =
     says_by (is_flat_law 3 (a ∷ b ∷ c ∷ []))
