@@ -2,14 +2,19 @@
 use borrow.Author.Rules.{rules}
 use mathlib.Core.Path.{◌≡◌, sym, ◌∙◌, subst}
 use mathlib.Core.Bool.{Bool}
-use mathlib.Core.Logic.{⊎_elim}
 use Rattle.telling.specs.Numbers.{verdict_code}
 use Rattle.door.specs.Doors.{VerdictTold}
 use Rattle.door.proofs.NineNumbers.{first_off, second_off, both_ready, both_on}
 use Rattle.door.proofs.bytes.verdict_number.Goals as goal
+use Rattle.door.proofs.bytes.verdict_number.Goals.{then-not-all_on-via-then-not-all_on, then-not-all_on-via-else-not-all_on+then-not-all_on-2}
 
 pub returns-then-not-all_on : goal.returns-then-not-all_on
-returns-then-not-all_on c = ?
+returns-then-not-all_on c =
+    elim c.then-not-all_on.branch [
+      then-not-all_on-via-then-not-all_on w ↦ first_off _ _ c.requires.0 c.requires.1 (sym c.all_on.ensures ∙ w.if-not-all_on.true)
+    | then-not-all_on-via-else-not-all_on+then-not-all_on-2 w ↦
+        second_off _ _ c.requires.0 c.requires.1 (sym c.all_on.ensures ∙ w.if-not-all_on.false) (sym w.all_on-else-not-all_on.ensures ∙ w.if-not-all_on-2.true)
+    ]
 
 pub triangles_meet-requires : goal.triangles_meet-requires
 triangles_meet-requires c =

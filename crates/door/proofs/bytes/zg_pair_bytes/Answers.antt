@@ -13,7 +13,7 @@ use Rattle.door.proofs.NineNumbers.{told_alike}
 use Rattle.door.proofs.bytes.zg_pair_bytes.Goals as goal
 
 pub returns-then-a-ne36 : goal.returns-then-a-ne36
-returns-then-a-ne36 c = wrong_length (λ long. ?) refl
+returns-then-a-ne36 c = wrong_length (λ long. omega arith) refl
 
 pub returns : goal.returns
 returns c =
