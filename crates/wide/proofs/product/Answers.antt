@@ -109,10 +109,14 @@ module _ (u v : ℤ) (fu : SFits w64 u) (fv : SFits w64 v) where
   div-mod : (n : ℕ) → n ≡ n / 2 ^ 32 * 2 ^ 32 + n % 2 ^ 32
   div-mod n = omega arith
 
-  whole : to_z w64 (of_z w64 (to_z w64 (of_z w64 (to_z w64 (of_z w64 (high u *ℤ high v)) +ℤ high (tm u v fu fv))) +ℤ high sm)) *ℤ pos (2 ^ 64) +ℤ pos lom ≡ u *ℤ v
-  whole =
-      ap₂ (λ (h : ℤ) (l : ℕ). h *ℤ pos (2 ^ 64) +ℤ pos l) (held w64 uvts tt).is lo-is
-      ∙ columns u v (u1 u v fu fv) (v1 u v fu fv) (shr_z (t u v fu fv) (2 ^ 32)) (shr_z s (2 ^ 32)) (u0 u v fu fv) (v0 u v fu fv)
+  -- what the code joins, and that the columns make the product
+  joined : to_z w64 (of_z w64 (to_z w64 (of_z w64 (to_z w64 (of_z w64 (high u *ℤ high v)) +ℤ high (tm u v fu fv))) +ℤ high sm)) *ℤ pos (2 ^ 64) +ℤ pos lom
+      ≡ (u1 u v fu fv *ℤ v1 u v fu fv +ℤ shr_z (t u v fu fv) (2 ^ 32) +ℤ shr_z s (2 ^ 32)) *ℤ pos (2 ^ 64) +ℤ pos (s0 * 2 ^ 32 + u0 u v fu fv * v0 u v fu fv % 2 ^ 32)
+  joined = ap₂ (λ (h : ℤ) (l : ℕ). h *ℤ pos (2 ^ 64) +ℤ pos l) (held w64 uvts tt).is lo-is
+
+  by_columns : (u1 u v fu fv *ℤ v1 u v fu fv +ℤ shr_z (t u v fu fv) (2 ^ 32) +ℤ shr_z s (2 ^ 32)) *ℤ pos (2 ^ 64) +ℤ pos (s0 * 2 ^ 32 + u0 u v fu fv * v0 u v fu fv % 2 ^ 32) ≡ u *ℤ v
+  by_columns =
+      columns u v (u1 u v fu fv) (v1 u v fu fv) (shr_z (t u v fu fv) (2 ^ 32)) (shr_z s (2 ^ 32)) (u0 u v fu fv) (v0 u v fu fv)
       (u0 u v fu fv * v0 u v fu fv / 2 ^ 32) (u0 u v fu fv * v0 u v fu fv % 2 ^ 32) (t0 u v fu fv) s0
       (halves u fu) (halves v fv) (div-mod (u0 u v fu fv * v0 u v fu fv)) (halves (t u v fu fv) (t-ok u v fu fv)) (halves s s-ok)
 
@@ -159,4 +163,4 @@ pub overflow_add-result-3 : goal.overflow_add-result-3
 overflow_add-result-3 c = lo-fits c.args.u c.args.v c.ranges.u c.ranges.v
 
 pub returns : goal.returns
-returns c = whole c.args.u c.args.v c.ranges.u c.ranges.v
+returns c = joined c.args.u c.args.v c.ranges.u c.ranges.v ∙ by_columns c.args.u c.args.v c.ranges.u c.ranges.v

@@ -28,9 +28,9 @@ negative : (h : ℤ) (l : ℕ) → l < 2 ^ 64 → lt_z h (pos 0) ≡ true → ne
 negative (pos n) l hl e = absurd (not-lt-zero n (ltb-true n 0 e))
 negative (negsuc n) l hl e = below (suc n * 2 ^ 64) l (omega arith)
 
--- neither negative nor 0
-positive : (h : ℤ) (l : ℕ) → lt_z h (pos 0) ≡ false → (of_z w64 h ≡ 0 → ⊥) → pos 1 ≡ sign (h *ℤ pos (2 ^ 64) +ℤ pos l)
-positive (pos zero) l e k = absurd (k refl)
+-- not negative, and not both words 0
+positive : (h : ℤ) (l : ℕ) → lt_z h (pos 0) ≡ false → (of_z w64 h ≡ 0 → l ≡ 0 → ⊥) → pos 1 ≡ sign (h *ℤ pos (2 ^ 64) +ℤ pos l)
+positive (pos zero) l e k = natural (0 * 2 ^ 64 + l) (omega (arith, k refl))
 positive (pos (suc n)) l e k = natural (suc n * 2 ^ 64 + l) (omega arith)
 positive (negsuc n) l e k = let z : ◌≡◌ {A = Bool} true false = e in let y : ◌≡◌ {A = ℕ} 0 1 = cc in absurd (not-lt-zero 0 (omega arith))
 
@@ -61,4 +61,4 @@ pub returns-else-hi-eq0 : goal.returns-else-hi-eq0
 returns-else-hi-eq0 c =
     let a = c.args.a in
     let f : SFits w64 c.args.a.hi = search rules in
-    positive a.hi a.lo (rw (to_z-of_z f) at c.if-hi-lt0.false) c.if-hi-eq0.false
+    positive a.hi a.lo (rw (to_z-of_z f) at c.if-hi-lt0.false) (λ e f. c.if-hi-eq0.false e)
