@@ -8,7 +8,6 @@ use Rattle.exact.specs.Vectors.{spatial}
 use Rattle.exact.proofs.Readings.{gap, stored_gap_law}
 use Rattle.space.proofs.SpaceLaws.{sized_as_without}
 use Rattle.inside.proofs.Levels.{three_told, three_passed}
-use borrow.Author.Rules.{rules}
 use Rattle.inside.proofs.ahead.edge_level.Goals as goal
 
 pub turn_at-requires : goal.turn_at-requires

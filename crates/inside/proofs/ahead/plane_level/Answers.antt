@@ -11,7 +11,6 @@ use Rattle.shape.specs.Normals.{normal_of}
 use Rattle.exact.specs.Vectors.{spatial, Sized, minor_size}
 use Rattle.exact.proofs.Readings.{kept, coordinate}
 use Rattle.inside.proofs.Levels.{three_told, three_passed}
-use borrow.Author.Rules.{rules}
 use Rattle.inside.proofs.ahead.plane_level.Goals as goal
 
 -- The opposite of a coordinate of the normal.

@@ -3,7 +3,6 @@ use mathlib.Core.Path.{refl}
 use lib.Dec.{eqb}
 use Rattle.exact.proofs.Branches.{if_equal, if_different}
 use Rattle.inside.proofs.Levels.{if_alike, if_unlike}
-use borrow.Author.Rules.{rules}
 use Rattle.inside.proofs.ahead.triangle_ahead.Goals as goal
 
 pub returns-then-e-eq1 : goal.returns-then-e-eq1

@@ -1,13 +1,8 @@
 -- `inside::corners::corner_inside` meets its contract: no triangle before i has a corner inside. Assumes nothing.
 use mathlib.Core.Path.{◌≡◌, sym, ap, ◌∙◌}
-use mathlib.Core.Bool.{Bool, false}
-use mathlib.Core.List.{List}
-use Prim.Native.Nat.{ℕ, ◌-◌, ◌≤◌}
+use Prim.Native.Nat.{ℕ}
 use native.Mathlib.Omega.{arith}
-use lib.IntN.{ℤ}
-use Rattle.shape.specs.Points.{Point, Shape}
 use Rattle.shape.specs.Lists.{some}
-use Rattle.shape.specs.InsideTest.{odd_ahead}
 use Rattle.shape.specs.TriangleLists.{triangles_in}
 use Rattle.shape.proofs.ListLaws.{some_held}
 use Rattle.shape.proofs.TriangleLists.{none_yet, none_more, some_here}

@@ -5,7 +5,6 @@ use Rattle.shape.specs.InsideTest.{is_ahead}
 use Rattle.shape.proofs.TriangleLists.{third_corner}
 use Rattle.exact.specs.Vectors.{spatial}
 use Rattle.exact.proofs.GridLaws.{sized_point}
-use borrow.Author.Rules.{rules}
 use Rattle.inside.proofs.corners.listed_ahead.Goals as goal
 
 pub triangle_ahead-requires : goal.triangle_ahead-requires

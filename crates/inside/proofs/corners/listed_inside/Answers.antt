@@ -10,7 +10,6 @@ use Rattle.shape.specs.TriangleLists.{triangles_in}
 use Rattle.shape.proofs.TriangleLists.{third_corner}
 use Rattle.exact.proofs.Branches.{if_taken, if_left, as_it_is}
 use Rattle.exact.proofs.GridLaws.{sized_point}
-use borrow.Author.Rules.{rules}
 use Rattle.inside.proofs.corners.listed_inside.Goals as goal
 
 -- Whether a corner is inside the shell of the first so many.

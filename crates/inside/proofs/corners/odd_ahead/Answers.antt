@@ -1,6 +1,6 @@
 -- `inside::corners::odd_ahead` meets its contract: odd says it of the first i triangles. Assumes nothing.
 use mathlib.Core.Path.{◌≡◌, ap, ◌∙◌}
-use Prim.Native.Nat.{ℕ, ◌-◌, ◌≤◌}
+use Prim.Native.Nat.{ℕ}
 use native.Mathlib.Omega.{arith}
 use Rattle.shape.specs.InsideTest.{odd_ahead}
 use Rattle.shape.specs.TriangleLists.{triangles_in}

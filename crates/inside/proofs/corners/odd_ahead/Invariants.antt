@@ -1,12 +1,9 @@
 -- `inside::corners::odd_ahead` meets its contract: odd says it of the first i triangles. Assumes nothing.
-use mathlib.Core.Path.{◌≡◌, ap, ◌∙◌}
-use Prim.Native.Nat.{ℕ, ◌-◌, ◌≤◌}
-use native.Mathlib.Omega.{arith}
+use mathlib.Core.Path.{◌≡◌}
+use Prim.Native.Nat.{◌-◌, ◌≤◌}
 use Rattle.shape.specs.InsideTest.{odd_ahead}
 use Rattle.shape.specs.TriangleLists.{triangles_in}
-use Rattle.shape.proofs.TriangleLists.{odd_none, odd_more}
 use Rattle.exact.specs.Vectors.{spatial}
-use borrow.Author.Rules.{rules}
 use Rattle.inside.proofs.corners.odd_ahead.Given as goal
 
 abbrev pub invariant-loop-i : goal.invariant-loop-i

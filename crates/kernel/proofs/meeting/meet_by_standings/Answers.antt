@@ -1,5 +1,4 @@
 -- `kernel::meeting::meet_by_standings` meets its contract: by the standing of u, and where one of its corners is alone by that of t. Assumes nothing.
-use borrow.Author.Rules.{rules}
 use Rattle.kernel.proofs.Stages.{judged_other_way, judged_within, judged_crossing}
 use Rattle.kernel.proofs.meeting.meet_by_standings.Goals as goal
 

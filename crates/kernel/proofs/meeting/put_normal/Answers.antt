@@ -1,7 +1,6 @@
 -- `kernel::meeting::put_normal` meets its contract: the three numbers are stored one by one. Assumes nothing.
 use mathlib.Core.Path.{◌∙◌}
 use mathlib.Core.List.{[], ◌∷◌}
-use borrow.Author.Rules.{rules}
 use Rattle.shape.specs.Normals.{normal_of}
 use Rattle.exact.proofs.Readings.{coordinate, all_stored}
 use Rattle.space.proofs.SpaceLaws.{sized_triangle, space_at}

@@ -1,7 +1,6 @@
 -- `kernel::meeting::put_plane` meets its contract: the three numbers are stored one by one. Assumes nothing.
 use mathlib.Core.Path.{ap, ◌∙◌}
 use mathlib.Core.List.{[], ◌∷◌}
-use borrow.Author.Rules.{rules}
 use Rattle.estimates.specs.Doubles.{plane_of, rough}
 use Rattle.estimates.specs.declared.Plane.{Plane}
 use Rattle.exact.proofs.Readings.{all_stored}

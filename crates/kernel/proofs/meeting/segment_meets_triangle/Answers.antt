@@ -1,5 +1,4 @@
 -- `kernel::meeting::segment_meets_triangle` meets its contract: the test is right on all segments and triangles. Assumes nothing.
-use borrow.Author.Rules.{rules}
 use Rattle.kernel.proofs.Judging.{segment_judged}
 use Rattle.kernel.proofs.meeting.segment_meets_triangle.Goals as goal
 

@@ -4,7 +4,6 @@ use Rattle.shape.specs.Normals.{normal_of}
 use Rattle.estimates.specs.Doubles.{rough, plane_of}
 use Rattle.exact.specs.Vectors.{Sized, narrow_size}
 use Rattle.space.proofs.SpaceLaws.{sized_triangle, space_at, normal_holds}
-use borrow.Author.Rules.{rules}
 use Rattle.kernel.proofs.meeting.standing_to.Goals as goal
 
 pub normal_of-n-requires : goal.normal_of-n-requires

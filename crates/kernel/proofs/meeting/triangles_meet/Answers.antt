@@ -1,5 +1,4 @@
 -- `kernel::meeting::triangles_meet` meets its contract: by both standings. Assumes nothing.
-use borrow.Author.Rules.{rules}
 use Rattle.kernel.proofs.Stages.{judged_other_way, judged_beside, no_flag}
 use Rattle.kernel.proofs.meeting.triangles_meet.Goals as goal
 

@@ -4,7 +4,6 @@ use mathlib.Core.Bool.{not}
 use Prim.Native.Nat.{ℕ}
 use lib.Dec.{eqb}
 use Rattle.exact.proofs.Branches.{if_equal, if_different}
-use borrow.Author.Rules.{rules}
 use Rattle.shells.proofs.closing.edge_open.Goals as goal
 
 pub returns-then-times-eq1 : goal.returns-then-times-eq1

@@ -1,18 +1,14 @@
 -- `shells::closing::is_open` meets its contract: no triangle before i has an open edge. Assumes nothing.
-use mathlib.Core.Path.{◌≡◌, sym, ap, ◌∙◌}
+use mathlib.Core.Path.{◌≡◌}
 use mathlib.Core.Bool.{Bool, false}
 use mathlib.Core.List.{List}
 use Prim.Native.Nat.{ℕ, ◌-◌, ◌≤◌}
-use native.Mathlib.Omega.{arith}
 use lib.IntN.{ℤ}
 use Rattle.shape.specs.Points.{Shape}
 use Rattle.shape.specs.Lists.{some}
 use Rattle.shape.specs.Shells.{edges_of}
 use Rattle.shape.specs.TriangleLists.{triangles_in}
-use Rattle.shape.proofs.TriangleLists.{none_yet, none_more, some_here}
 use Rattle.shells.specs.Opening.{edge_open}
-use Rattle.shells.proofs.Opening.{open_says}
-use borrow.Author.Rules.{rules}
 use Rattle.shells.proofs.closing.is_open.Given as goal
 
 -- Whether a triangle has an open edge among the edges of the first so many.

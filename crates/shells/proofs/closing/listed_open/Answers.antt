@@ -8,7 +8,6 @@ use Rattle.shape.proofs.TriangleLists.{third_corner}
 use Rattle.exact.proofs.Branches.{if_taken, if_left, as_it_is}
 use Rattle.shape.specs.TriangleLists.{triangles_in}
 use Rattle.shells.specs.Opening.{edge_open}
-use borrow.Author.Rules.{rules}
 use Rattle.shells.proofs.closing.listed_open.Goals as goal
 
 abbrev at : ℕ → List ℤ → Point

@@ -1,7 +1,6 @@
 -- `shells::closing::same_edge` meets its contract: where the beginnings are the same, the ends decide. Assumes nothing.
 use mathlib.Core.Path.{refl}
 use Rattle.exact.proofs.Branches.{if_taken, if_left}
-use borrow.Author.Rules.{rules}
 use Rattle.shells.proofs.closing.same_edge.Goals as goal
 
 pub returns-then-same_point : goal.returns-then-same_point

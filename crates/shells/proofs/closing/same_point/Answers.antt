@@ -8,7 +8,6 @@ use lib.IntN.{ℤ, pos, ◌-ℤ◌}
 use lib.ListN.{get_or}
 use Rattle.shape.specs.Flat.{is_zero}
 use Rattle.exact.proofs.Branches.{if_taken, if_left, as_it_is}
-use borrow.Author.Rules.{rules}
 use Rattle.shells.proofs.closing.same_point.Goals as goal
 
 -- The numbers at a position, one on and two on.

@@ -1,6 +1,6 @@
 -- `shells::closing::times` meets its contract: n is how often the edge occurs in the first i triangles. Assumes nothing.
 use mathlib.Core.Path.{◌≡◌, ap, ◌∙◌}
-use Prim.Native.Nat.{ℕ, ◌-◌, ◌*◌, ◌≤◌}
+use Prim.Native.Nat.{ℕ}
 use native.Mathlib.Omega.{arith}
 use Rattle.shape.specs.Points.{point_at}
 use Rattle.shape.specs.Lists.{held_by}

@@ -1,13 +1,10 @@
 -- `shells::closing::times` meets its contract: n is how often the edge occurs in the first i triangles. Assumes nothing.
-use mathlib.Core.Path.{◌≡◌, ap, ◌∙◌}
-use Prim.Native.Nat.{ℕ, ◌-◌, ◌*◌, ◌≤◌}
-use native.Mathlib.Omega.{arith}
+use mathlib.Core.Path.{◌≡◌}
+use Prim.Native.Nat.{◌-◌, ◌*◌, ◌≤◌}
 use Rattle.shape.specs.Points.{point_at}
 use Rattle.shape.specs.Lists.{held_by}
 use Rattle.shape.specs.Shells.{edges_of, occurs}
 use Rattle.shape.specs.TriangleLists.{triangles_in}
-use Rattle.shells.proofs.Counting.{times_none, times_more}
-use borrow.Author.Rules.{rules}
 use Rattle.shells.proofs.closing.times.Given as goal
 
 abbrev pub invariant-loop-i : goal.invariant-loop-i

@@ -1,5 +1,4 @@
 -- `space::meeting::is_null` meets its contract: a normal that is zero has no axis. Assumes nothing.
-use borrow.Author.Rules.{rules}
 use mathlib.Core.Path.{ap}
 use Prim.Native.Nat.{ℕ}
 use lib.Dec.{eqb}

@@ -1,6 +1,5 @@
 -- `space::meeting::meet_in_plane` meets its contract: the flat test without the coordinate that the second triangle's normal tells.
 -- Assumes nothing.
-use borrow.Author.Rules.{rules}
 use mathlib.Core.Path.{ap, ◌∙◌}
 use Prim.Native.Nat.{ℕ}
 use Rattle.shape.specs.PlaneTest.{triangle_test}

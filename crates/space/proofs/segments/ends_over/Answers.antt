@@ -1,5 +1,4 @@
 -- `space::segments::ends_over` meets its contract: the points are those of the lists. Assumes nothing.
-use borrow.Author.Rules.{rules}
 use mathlib.Core.Path.{◌∙◌}
 use Rattle.exact.proofs.GridLaws.{sized_point}
 use Rattle.space.specs.Spaces.{ends_over}

@@ -1,5 +1,4 @@
 -- `space::segments::passes` meets its contract: the points are those of the lists. Assumes nothing.
-use borrow.Author.Rules.{rules}
 use mathlib.Core.Path.{◌∙◌}
 use Prim.Native.Nat.{◌-◌}
 use Rattle.shape.specs.SpaceTest.{past_no_edge}

@@ -1,7 +1,6 @@
 -- `space::segments::passes_no_edge` meets its contract: three sure estimates tell the edges, and else three levels over two planes do. Assumes nothing.
 use mathlib.Core.Path.{◌∙◌}
-use borrow.Author.Rules.{rules}
-use Rattle.exact.specs.Vectors.{spatial, PlaneThrough}
+use Rattle.exact.specs.Vectors.{spatial}
 use Rattle.exact.proofs.LevelLaws.{estimate_told, level_from_first}
 use Rattle.space.proofs.SegmentLaws.{past_told, past_by_levels}
 use Rattle.space.proofs.segments.passes_no_edge.Goals as goal

@@ -1,5 +1,4 @@
 -- `space::segments::segment_meets_in_plane` meets its contract: the flat test without the coordinate that the triangle's normal tells. Assumes nothing.
-use borrow.Author.Rules.{rules}
 use mathlib.Core.Path.{refl, ap, ◌∙◌}
 use Prim.Native.Nat.{ℕ}
 use Rattle.shape.specs.PlaneTest.{segment_test}

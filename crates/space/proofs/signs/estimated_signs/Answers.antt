@@ -4,7 +4,6 @@ use native.Mathlib.Omega.{arith}
 use Rattle.exact.proofs.Branches.{bit≤}
 use Rattle.exact.proofs.LevelLaws.{estimate_told}
 use Rattle.space.proofs.Guesses.{signs_told, signs_found}
-use borrow.Author.Rules.{rules}
 use Rattle.space.proofs.signs.estimated_signs.Goals as goal
 
 pub overflow_sub-result : goal.overflow_sub-result

@@ -5,7 +5,6 @@ use lib.Dec.{eqb}
 use Rattle.exact.specs.Vectors.{spatial}
 use Rattle.exact.proofs.LevelLaws.{level_from_first}
 use Rattle.space.proofs.SpaceLaws.{neither}
-use borrow.Author.Rules.{rules}
 use Rattle.space.proofs.signs.exact_signs.Goals as goal
 
 pub returns : goal.returns

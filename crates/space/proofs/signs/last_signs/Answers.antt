@@ -1,6 +1,5 @@
 -- `space::signs::last_signs` meets its contract: both ways to the signs give them. Assumes nothing.
 use Rattle.exact.proofs.Holding.{small_holds}
-use borrow.Author.Rules.{rules}
 use Rattle.space.proofs.signs.last_signs.Goals as goal
 
 pub low_signs-requires : goal.low_signs-requires

@@ -1,7 +1,6 @@
 -- `space::signs::low_signs` meets its contract: its two tests are those of the decision. Assumes nothing.
 use mathlib.Core.Path.{ap, ◌∙◌}
 use Prim.Native.Nat.{ℕ}
-use borrow.Author.Rules.{rules}
 use lib.Dec.{eqb}
 use Rattle.exact.specs.Vectors.{spatial}
 use Rattle.space.proofs.SpaceLaws.{level_told, neither}

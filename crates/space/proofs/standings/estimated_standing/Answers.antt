@@ -5,7 +5,6 @@ use Rattle.shape.specs.SpaceTest.{pattern}
 use Rattle.estimates.specs.Doubles.{rough, plane_of}
 use Rattle.space.proofs.SpaceLaws.{sized_triangle, space_at, spaces_at}
 use Rattle.space.proofs.Guesses.{guessed_standing}
-use borrow.Author.Rules.{rules}
 use Rattle.space.proofs.standings.estimated_standing.Goals as goal
 
 pub guess_of-guess-requires : goal.guess_of-guess-requires

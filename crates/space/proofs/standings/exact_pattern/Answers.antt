@@ -2,7 +2,6 @@
 use mathlib.Core.Path.{◌∙◌}
 use Prim.Native.Nat.{◌+◌, ◌*◌}
 use native.Mathlib.Omega.{arith}
-use borrow.Author.Rules.{rules}
 use Rattle.exact.specs.Vectors.{spatial}
 use Rattle.exact.proofs.LevelLaws.{level_from_first}
 use Rattle.space.proofs.SpaceLaws.{plane_through}

@@ -3,7 +3,6 @@ use mathlib.Core.Path.{sym, ◌∙◌}
 use Rattle.shape.specs.SpaceTest.{pattern}
 use Rattle.estimates.specs.Doubles.{rough, plane_of}
 use Rattle.space.proofs.SpaceLaws.{sized_triangle, normal_in_law, space_at, spaces_at, stands_so}
-use borrow.Author.Rules.{rules}
 use Rattle.space.proofs.standings.exact_standing.Goals as goal
 
 pub exact_pattern-requires : goal.exact_pattern-requires

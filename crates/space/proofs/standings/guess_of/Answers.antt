@@ -4,7 +4,6 @@ use native.Mathlib.Omega.{arith}
 use Rattle.exact.proofs.Branches.{bit≤}
 use Rattle.exact.proofs.LevelLaws.{estimate_told}
 use Rattle.space.proofs.Guesses.{level_small, guessed}
-use borrow.Author.Rules.{rules}
 use Rattle.space.proofs.standings.guess_of.Goals as goal
 
 pub overflow_mul-result : goal.overflow_mul-result

@@ -1,6 +1,5 @@
 -- `space::standings::is_sure` meets its contract. Assumes nothing.
 use mathlib.Core.Bool.{◌||◌}
-use borrow.Author.Rules.{rules}
 use Rattle.space.proofs.standings.is_sure.Goals as goal
 
 pub returns : goal.returns

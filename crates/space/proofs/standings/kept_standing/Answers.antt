@@ -5,7 +5,6 @@ use lib.ListN.{length}
 use Rattle.shape.specs.SpaceTest.{pattern}
 use Rattle.estimates.specs.Doubles.{rough, plane_of}
 use Rattle.space.proofs.SpaceLaws.{sized_triangle, normal_in_law, space_at, spaces_at, stands_so, plane_of_row}
-use borrow.Author.Rules.{rules}
 use Rattle.space.proofs.standings.kept_standing.Goals as goal
 
 pub plane_in-requires : goal.plane_in-requires

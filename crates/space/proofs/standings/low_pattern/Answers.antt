@@ -1,7 +1,6 @@
 -- `space::standings::low_pattern` meets its contract: each level over the plane is told by its normal, and by its low word. Assumes nothing.
 use Prim.Native.Nat.{◌+◌, ◌*◌}
 use native.Mathlib.Omega.{arith}
-use borrow.Author.Rules.{rules}
 use Rattle.exact.specs.Vectors.{spatial}
 use Rattle.space.proofs.SpaceLaws.{level_by_normal}
 use Rattle.space.proofs.standings.low_pattern.Goals as goal

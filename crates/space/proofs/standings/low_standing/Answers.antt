@@ -2,7 +2,6 @@
 use mathlib.Core.Path.{◌∙◌}
 use Rattle.shape.specs.SpaceTest.{pattern}
 use Rattle.space.proofs.SpaceLaws.{sized_triangle, normal_in_law, spaces_at, sides_held, stands_so}
-use borrow.Author.Rules.{rules}
 use Rattle.space.proofs.standings.low_standing.Goals as goal
 
 pub low_pattern-requires : goal.low_pattern-requires

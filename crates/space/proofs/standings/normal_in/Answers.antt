@@ -1,5 +1,4 @@
 -- `space::standings::normal_in` meets its contract: three numbers are read. Assumes nothing.
-use borrow.Author.Rules.{rules}
 use Rattle.exact.proofs.Readings.{three_read}
 use Rattle.space.proofs.standings.normal_in.Goals as goal
 

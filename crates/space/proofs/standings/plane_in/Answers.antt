@@ -1,5 +1,4 @@
 -- `space::standings::plane_in` meets its contract: three numbers are read. Assumes nothing.
-use borrow.Author.Rules.{rules}
 use Rattle.space.proofs.SpaceLaws.{three_of}
 use Rattle.space.proofs.standings.plane_in.Goals as goal
 

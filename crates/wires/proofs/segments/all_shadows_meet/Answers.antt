@@ -1,5 +1,4 @@
 -- `wires::segments::all_shadows_meet` meets its contract: shadow by shadow, z dropped first. Assumes nothing.
-use borrow.Author.Rules.{rules}
 use mathlib.Core.Path.{refl}
 use Rattle.exact.proofs.Branches.{if_taken, if_left, as_it_is}
 use Rattle.wires.proofs.segments.all_shadows_meet.Goals as goal

@@ -1,5 +1,4 @@
 -- `wires::segments::along_meet` meets its contract: coordinate by coordinate, z first. Assumes nothing.
-use borrow.Author.Rules.{rules}
 use mathlib.Core.Path.{refl}
 use Rattle.shape.specs.WireTest.{stretches_meet}
 use Rattle.exact.proofs.Branches.{if_taken, if_left, as_it_is}

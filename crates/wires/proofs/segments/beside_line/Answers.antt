@@ -1,5 +1,4 @@
 -- `wires::segments::beside_line` meets its contract: by the two turns. Assumes nothing.
-use borrow.Author.Rules.{rules}
 use mathlib.Core.Path.{◌∙◌}
 use mir.Syntax.{w64}
 use Rattle.algebra.proofs.Machine.{returned}

@@ -1,6 +1,5 @@
 -- `wires::segments::segments_meet` meets its contract: the stretches, the plane and the shadows are asked in the order of the decision. Assumes
 -- nothing.
-use borrow.Author.Rules.{rules}
 use mathlib.Core.Path.{refl}
 use Rattle.exact.proofs.Branches.{if_taken, if_left, if_equal, if_different}
 use Rattle.wires.proofs.segments.segments_meet.Goals as goal

@@ -1,5 +1,4 @@
 -- `wires::segments::shadows_meet` meets its contract: the shadows are those of the definition. Assumes nothing.
-use borrow.Author.Rules.{rules}
 use mathlib.Core.Path.{◌∙◌}
 use Rattle.shape.specs.WireTest.{lines_meet}
 use Rattle.space.proofs.SpaceLaws.{sized_as_without}

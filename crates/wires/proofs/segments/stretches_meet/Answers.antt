@@ -1,5 +1,4 @@
 -- `wires::segments::stretches_meet` meets its contract: its two tests are those of the decision. Assumes nothing.
-use borrow.Author.Rules.{rules}
 use mathlib.Core.Path.{refl, ap}
 use mathlib.Core.Bool.{not}
 use mir.Facts.{to_z-of_z}

@@ -1,5 +1,4 @@
 -- `wires::triangles::close_meet` meets its contract: the normals tell which triangles are flat. Assumes nothing.
-use borrow.Author.Rules.{rules}
 use mathlib.Core.Path.{◌∙◌}
 use Rattle.shape.specs.SpaceTest.{in_plane_test}
 use Rattle.exact.proofs.Branches.{if_taken, if_left}

@@ -1,5 +1,4 @@
 -- `wires::triangles::edge_meets` meets its contract: edge by edge. Assumes nothing.
-use borrow.Author.Rules.{rules}
 use mathlib.Core.Path.{refl, ◌∙◌}
 use native.Mathlib.Omega.{arith}
 use Rattle.shape.specs.WireTest.{segment_triangle_test}

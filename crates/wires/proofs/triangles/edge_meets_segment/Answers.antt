@@ -1,5 +1,4 @@
 -- `wires::triangles::edge_meets_segment` meets its contract: edge by edge. Assumes nothing.
-use borrow.Author.Rules.{rules}
 use mathlib.Core.Path.{refl, ◌∙◌}
 use Rattle.shape.specs.WireTest.{segments_test}
 use Rattle.exact.proofs.Branches.{if_taken, if_left}

@@ -1,5 +1,4 @@
 -- `wires::triangles::level_segment_meets` meets its contract: the normal tells whether the triangle is flat. Assumes nothing.
-use borrow.Author.Rules.{rules}
 use mathlib.Core.Path.{◌∙◌}
 use Rattle.shape.specs.Normals.{normal_of}
 use Rattle.exact.proofs.Branches.{if_taken, if_left}

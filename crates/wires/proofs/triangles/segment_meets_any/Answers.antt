@@ -1,5 +1,4 @@
 -- `wires::triangles::segment_meets_any` meets its contract: the number of the ends tells which test decides. Assumes nothing.
-use borrow.Author.Rules.{rules}
 use mathlib.Core.Path.{◌∙◌}
 use Prim.Native.Nat.{◌/◌, ◌%◌}
 use native.Mathlib.Omega.{arith}
