@@ -2,8 +2,7 @@
 use borrow.Author.Rules.{rules}
 use mathlib.Core.Path.{◌≡◌, refl, sym, ap, ◌∙◌}
 use mathlib.Core.Bool.{Bool, false, cond}
-use mathlib.Core.Logic.{⊎_elim}
-use Prim.Native.Nat.{ℕ, suc, ◌+◌, ◌≤◌, ◌-◌}
+use Prim.Native.Nat.{ℕ, suc, ◌+◌}
 use native.Mathlib.Omega.{arith}
 use lib.IntN.{pos}
 use lib.ListN.{length, get_or}
@@ -23,9 +22,9 @@ loop-i-preserved c =
     let z = get_or c.args.numbers.now c.loop-i.i (pos 0) in (
       search rules,
       elim c.if-off_grid.branch [
-        then-off_grid w ↦
+        | then-off_grid w ↦
             w.on-is ∙ if_left _ _ (sym (tested_off z c.off_grid-arg-1.given c.off_grid.result c.off_grid.ensures w.if-off_grid.true)) refl refl
-      | else-off_grid w ↦
+        | else-off_grid w ↦
             w.on-is
             ∙ if_taken _ _ (sym (tested_on z c.off_grid-arg-1.given c.off_grid.result c.off_grid.ensures w.if-off_grid.false)) refl c.loop-i.invariant.1
       ]

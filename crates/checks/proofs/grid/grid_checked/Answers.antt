@@ -1,5 +1,4 @@
 -- `checks::grid::grid_checked` meets its contract: a place is sought only where some number is off the grid. Assumes nothing.
-use borrow.Author.Rules.{rules}
 use mathlib.Core.Path.{sym, ap, ◌∙◌}
 use Rattle.checks.specs.Answers.{refused}
 use Rattle.checks.proofs.CheckLaws.{all_on_fine, not_all_refused}

@@ -1,5 +1,4 @@
 -- `checks::grid::lengths_checked` meets its contract: where the first list is refused the second does not count. Assumes nothing.
-use borrow.Author.Rules.{rules}
 use Rattle.checks.proofs.AnswerLaws.{stopped, passed_on}
 use Rattle.checks.proofs.grid.lengths_checked.Goals as goal
 

@@ -1,14 +1,10 @@
 -- `checks::grid::lowest_off` meets its contract: every number before i is on the grid, so the first that is not is the lowest.
 -- Assumes nothing.
-use Prim.Native.Nat.{ℕ, ◌≤◌, ◌<◌, ◌-◌}
 use native.Mathlib.Omega.{arith}
-use mathlib.Core.Path.{◌≡◌}
-use mathlib.Core.Bool.{true}
 use borrow.Author.Count.{below_none, below_more}
 use borrow.Author.Rules.{rules}
 use lib.IntN.{pos}
-use lib.ListN.{length, get_or}
-use Rattle.checks.specs.Grid.{on_grid}
+use lib.ListN.{get_or}
 use Rattle.checks.proofs.GridLaws.{lowest_is, tested_off, tested_on}
 use Rattle.checks.proofs.grid.lowest_off.Goals as goal
 

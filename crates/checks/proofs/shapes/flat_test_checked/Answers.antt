@@ -1,5 +1,4 @@
 -- `checks::shapes::flat_test_checked` meets its contract: the lengths of both lists come before the triangles. Assumes nothing.
-use borrow.Author.Rules.{rules}
 use mathlib.Core.Path.{◌≡◌, sym, ap, ◌∙◌}
 use mathlib.Core.List.{List}
 use lib.IntN.{ℤ}

@@ -1,5 +1,4 @@
 -- `checks::shapes::in_space_checked` meets its contract: the lengths of both lists come before the grid, and nothing comes after it. Assumes nothing.
-use borrow.Author.Rules.{rules}
 use mathlib.Core.Path.{◌≡◌, sym, ◌∙◌}
 use mathlib.Core.List.{List}
 use Prim.Native.Nat.{ℕ, ◌*◌}

@@ -1,5 +1,4 @@
 -- `checks::shapes::plane_triangles_checked` meets its contract: where the first triangle is refused the second does not count. Assumes nothing.
-use borrow.Author.Rules.{rules}
 use Rattle.checks.proofs.AnswerLaws.{stopped, passed_on}
 use Rattle.checks.proofs.shapes.plane_triangles_checked.Goals as goal
 

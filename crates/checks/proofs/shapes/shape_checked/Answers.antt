@@ -1,5 +1,4 @@
 -- `checks::shapes::shape_checked` meets its contract: what is off the grid is refused, and of the rest what is flat. Assumes nothing.
-use borrow.Author.Rules.{rules}
 use mathlib.Core.Path.{sym, ap, ◌∙◌}
 use mathlib.Core.Bool.{Bool, cond}
 use Rattle.checks.specs.Answers.{refused, fine}

@@ -1,5 +1,5 @@
 -- `keeping::journal::popped` meets its contract: the first n entries have moved up by one, and at the end a blank comes last. Assumes nothing.
-use Rattle.std.proofs.Common.{◌≡◌, ℕ, ◌+◌, ◌-◌, ◌≤◌, [], ◌∷◌, ◌++◌, length, get_or, drop, set, sym, refl, ap, ◌∙◌, add-one, arith, length-append, length-drop, length-set, get_or-drop, rules}
+use Rattle.std.proofs.Common.{◌≡◌, ℕ, ◌+◌, [], ◌∷◌, ◌++◌, length, get_or, drop, set, sym, refl, ap, ◌∙◌, add-one, arith, length-append, length-drop, length-set, get_or-drop, rules}
 use lib.ListN.{get_or-append}
 use lib.Seq.{get_or_at}
 use Rattle.algebra.proofs.Copying.{over, over_more, over_all}

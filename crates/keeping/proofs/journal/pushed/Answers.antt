@@ -1,5 +1,5 @@
 -- `keeping::journal::pushed` meets its contract: the latest entry stands first, and behind it the first n of the old ones. Assumes nothing.
-use Rattle.std.proofs.Common.{◌≡◌, ℕ, suc, ◌+◌, ◌-◌, ◌≤◌, ◌∷◌, length, get_or, take, drop, set, sym, ap, ◌∙◌, add-one, arith, length-set, get_or-set_same, rules}
+use Rattle.std.proofs.Common.{◌≡◌, ℕ, suc, ◌+◌, ◌∷◌, length, get_or, take, drop, set, sym, ap, ◌∙◌, add-one, arith, length-set, get_or-set_same, rules}
 use Rattle.algebra.proofs.Copying.{over, over_more, over_end}
 use Rattle.keeping.specs.Journal.{blank}
 use Rattle.keeping.specs.declared.journal.Entry.{Entry}

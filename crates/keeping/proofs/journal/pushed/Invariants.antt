@@ -1,9 +1,7 @@
 -- `keeping::journal::pushed` meets its contract: the latest entry stands first, and behind it the first n of the old ones. Assumes nothing.
-use Rattle.std.proofs.Common.{◌≡◌, ℕ, suc, ◌+◌, ◌-◌, ◌≤◌, ◌∷◌, length, get_or, take, drop, set, sym, ap, ◌∙◌, add-one, arith, length-set, get_or-set_same, rules}
-use Rattle.algebra.proofs.Copying.{over, over_more, over_end}
+use Rattle.std.proofs.Common.{◌≡◌, suc, ◌-◌, ◌≤◌, ◌∷◌, length, get_or}
+use Rattle.algebra.proofs.Copying.{over}
 use Rattle.keeping.specs.Journal.{blank}
-use Rattle.keeping.specs.declared.journal.Entry.{Entry}
-use Rattle.keeping.proofs.Past.{unread}
 use Rattle.keeping.proofs.journal.pushed.Given as goal
 
 abbrev pub invariant-loop-n : goal.invariant-loop-n

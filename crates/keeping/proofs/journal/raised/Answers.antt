@@ -1,5 +1,5 @@
 -- `keeping::journal::raised` meets its contract: one more, and 32 at most. Assumes nothing.
-use Rattle.std.proofs.Common.{arith, rules}
+use Rattle.std.proofs.Common.{arith}
 use Rattle.keeping.proofs.journal.raised.Goals as goal
 
 pub returns-then-reach-lt32 : goal.returns-then-reach-lt32

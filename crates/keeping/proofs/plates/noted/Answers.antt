@@ -1,5 +1,5 @@
 -- `keeping::plates::noted` meets its contract: the journal takes the entry, the reach goes up, and nothing else changes. Assumes nothing.
-use Rattle.std.proofs.Common.{ℕ, suc, min, List, ◌∷◌, take, ap, ◌∙◌, rules}
+use Rattle.std.proofs.Common.{ℕ, suc, min, List, ◌∷◌, take, ap, ◌∙◌}
 use Rattle.keeping.specs.declared.journal.Entry.{Entry}
 use Rattle.keeping.proofs.plates.noted.Goals as goal
 

@@ -1,6 +1,6 @@
 -- `keeping::plates::restored` meets its contract: the slot of the entry gets back what stood there, or the part of the entry moves back.
 -- Assumes nothing.
-use Rattle.std.proofs.Common.{◌≡◌, true, List, map, get_or, sym, ap, ◌∙◌, subst, arith, rules}
+use Rattle.std.proofs.Common.{◌≡◌, true, List, map, get_or, sym, ap, ◌∙◌, subst, arith}
 use lib.Seq.{set_out}
 use Rattle.moving.specs.Moves.{steps}
 use Rattle.slots.specs.Slots.{Slot, free}

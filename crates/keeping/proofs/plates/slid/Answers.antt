@@ -1,5 +1,5 @@
 -- `keeping::plates::slid` meets its contract: the part and its steps are noted, and then the part is moved forth. Assumes nothing.
-use Rattle.std.proofs.Common.{◌≡◌, suc, min, List, ◌∷◌, take, ℤ, subst, rules}
+use Rattle.std.proofs.Common.{◌≡◌, suc, min, List, ◌∷◌, take, ℤ, subst}
 use Rattle.moving.proofs.MoveLaws.{steps_forth}
 use Rattle.keeping.specs.Journal.{entry}
 use Rattle.keeping.specs.Steps.{Shows, Nudged}

@@ -3,7 +3,6 @@ use mathlib.Core.Path.{◌≡◌, sym, ◌∙◌}
 use mathlib.Core.Bool.{Bool, false, not, true≢false}
 use Prim.Native.Nat.{◌^◌, ◌<◌}
 use lib.Signed.{mag}
-use borrow.Author.Rules.{rules}
 use borrow.Author.Tests.{leb-true}
 use lib.IntN.{ℤ, nat_abs, ◌+ℤ◌}
 use mir.Syntax.{w32, w64}

@@ -1,24 +1,15 @@
 -- `moving::steps::move_numbers` meets its contract: after k numbers the first k are those of the list moved, and the others are still
 -- the old ones. This is known only where the whole list stays on the grid; its length is kept in any case. Assumes nothing.
-use mathlib.Core.Path.{◌≡◌, sym, ap, ◌∙◌}
+use mathlib.Core.Path.{◌≡◌}
 use mathlib.Core.Bool.{Bool, true}
 use mathlib.Core.List.{List}
-use Prim.Native.Nat.{ℕ, ◌+◌, ◌-◌, ◌^◌, ◌<◌, ◌≤◌}
-use native.Mathlib.Numerals.{add-one}
-use native.Mathlib.Omega.{arith}
-use borrow.Author.Rules.{rules}
-use lib.IntN.{ℤ, pos, ◌+ℤ◌}
-use lib.ListN.{length, get_or, set}
-use lib.Signed.{mag}
-use mir.Syntax.{w32}
-use mir.Val.{to_z, of_z, hbits}
-use Rattle.algebra.proofs.Copying.{over, over_at, over_more, over_all}
-use Rattle.algebra.proofs.Machine.{returned}
+use Prim.Native.Nat.{◌-◌, ◌≤◌}
+use lib.IntN.{ℤ}
+use lib.ListN.{length}
+use Rattle.algebra.proofs.Copying.{over}
 use Rattle.shape.specs.Points.{moved}
-use Rattle.checks.specs.Grid.{on_grid, all_on}
-use Rattle.checks.proofs.GridLaws.{all_on_says}
-use Rattle.moving.specs.Moves.{step, steps}
-use Rattle.moving.proofs.MoveLaws.{length_moved, moved_at, steps_long, sum_read}
+use Rattle.checks.specs.Grid.{all_on}
+use Rattle.moving.specs.Moves.{steps}
 use Rattle.moving.proofs.steps.move_numbers.Given as goal
 
 -- the list that is to come out

@@ -1,5 +1,4 @@
 -- `moving::steps::off_grid` meets its contract: a sum is off the grid below the lower end or above the upper. Assumes nothing.
-use borrow.Author.Rules.{rules}
 use mir.Facts.{to_z-of_z}
 use Rattle.checks.proofs.GridLaws.{below_limit, not_below_limit}
 use Rattle.moving.proofs.steps.off_grid.Goals as goal

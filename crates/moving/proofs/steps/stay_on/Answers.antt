@@ -1,19 +1,16 @@
 -- `moving::steps::stay_on` meets its contract: after k numbers the flag tells whether all of them stay on the grid. Assumes nothing.
 use mathlib.Core.Path.{◌≡◌, refl, sym, ap, ◌∙◌}
-use mathlib.Core.Bool.{Bool, false}
-use mathlib.Core.List.{List}
-use mathlib.Core.Logic.{⊎_elim}
-use Prim.Native.Nat.{ℕ, ◌-◌, ◌≤◌}
+use mathlib.Core.Bool.{false}
+use Prim.Native.Nat.{ℕ}
 use native.Mathlib.Numerals.{add-one}
 use native.Mathlib.Omega.{arith}
 use borrow.Author.Rules.{rules}
-use lib.IntN.{ℤ, pos}
+use lib.IntN.{pos}
 use lib.ListN.{length, get_or}
 use Rattle.shape.specs.Flat.{all_below}
 use Rattle.shape.specs.Points.{moved}
 use Rattle.shape.proofs.Trading.{coord_moved}
 use Rattle.exact.proofs.Branches.{if_taken, if_left}
-use Rattle.checks.specs.Grid.{on_grid}
 use Rattle.moving.proofs.MoveLaws.{length_moved, sum_read, sum_off, sum_on}
 use Rattle.moving.proofs.steps.stay_on.Invariants.{stays}
 use Rattle.moving.proofs.steps.stay_on.Goals as goal
@@ -27,13 +24,13 @@ loop-k-preserved c =
     let ok = c.moved_number.type_inv in
     let tells = c.off_grid.ensures in
     let made : c.moved_number.result ≡ get_or (moved by numbers) k (pos 0) =
-        c.moved_number.ensures
-        ∙ sum_read false (get_or by k (pos 0)) (get_or numbers k (pos 0)) c.moved_number-arg-in-loop-k-1.given c.moved_number-arg-1.given
-        ∙ sym (coord_moved k by numbers) in (
+    c.moved_number.ensures
+    ∙ sum_read false (get_or by k (pos 0)) (get_or numbers k (pos 0)) c.moved_number-arg-in-loop-k-1.given c.moved_number-arg-1.given
+    ∙ sym (coord_moved k by numbers) in (
       search rules,
       elim c.if-off_grid.branch [
-        then-off_grid w ↦ w.on-is ∙ if_left _ _ (sym (sum_off ok made tells w.if-off_grid.true)) refl refl
-      | else-off_grid w ↦ w.on-is ∙ if_taken _ _ (sym (sum_on ok made tells w.if-off_grid.false)) refl c.loop-k.invariant.1
+        | then-off_grid w ↦ w.on-is ∙ if_left _ _ (sym (sum_off ok made tells w.if-off_grid.true)) refl refl
+        | else-off_grid w ↦ w.on-is ∙ if_taken _ _ (sym (sum_on ok made tells w.if-off_grid.false)) refl c.loop-k.invariant.1
       ]
           ∙ ap (λ (n : ℕ). all_below n (stays numbers by)) (sym (add-one k)),
     )

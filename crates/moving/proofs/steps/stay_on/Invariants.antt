@@ -1,20 +1,13 @@
 -- `moving::steps::stay_on` meets its contract: after k numbers the flag tells whether all of them stay on the grid. Assumes nothing.
-use mathlib.Core.Path.{◌≡◌, refl, sym, ap, ◌∙◌}
-use mathlib.Core.Bool.{Bool, false}
+use mathlib.Core.Path.{◌≡◌}
+use mathlib.Core.Bool.{Bool}
 use mathlib.Core.List.{List}
-use mathlib.Core.Logic.{⊎_elim}
 use Prim.Native.Nat.{ℕ, ◌-◌, ◌≤◌}
-use native.Mathlib.Numerals.{add-one}
-use native.Mathlib.Omega.{arith}
-use borrow.Author.Rules.{rules}
 use lib.IntN.{ℤ, pos}
 use lib.ListN.{length, get_or}
 use Rattle.shape.specs.Flat.{all_below}
 use Rattle.shape.specs.Points.{moved}
-use Rattle.shape.proofs.Trading.{coord_moved}
-use Rattle.exact.proofs.Branches.{if_taken, if_left}
 use Rattle.checks.specs.Grid.{on_grid}
-use Rattle.moving.proofs.MoveLaws.{length_moved, sum_read, sum_off, sum_on}
 use Rattle.moving.proofs.steps.stay_on.Given as goal
 
 -- whether number i stays

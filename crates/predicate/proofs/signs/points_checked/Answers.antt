@@ -1,6 +1,5 @@
 -- `predicate::signs::points_checked` meets its contract: where the length is refused nothing else counts, and where it is fine the grid decides.
 -- Assumes nothing.
-use borrow.Author.Rules.{rules}
 use Rattle.checks.proofs.AnswerLaws.{stopped, passed_on}
 use Rattle.predicate.proofs.signs.points_checked.Goals as goal
 

@@ -1,6 +1,6 @@
 -- `predicate::signs::signed` meets its contract: a refusal stays, and a value becomes its sign.
 -- Assumes nothing.
-use borrow.Author.Rules.{rules, sfits_of}
+use borrow.Author.Rules.{sfits_of}
 use mir.Syntax.{w64}
 use mir.Facts.{to_z-of_z}
 use mathlib.Core.Path.{sym, ap, ◌∙◌}

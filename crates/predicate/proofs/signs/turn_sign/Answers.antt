@@ -1,6 +1,5 @@
 -- `predicate::signs::turn_sign` meets its contract: it is the sign of what the value call answers.
 -- Assumes nothing.
-use borrow.Author.Rules.{rules}
 use mathlib.Core.Path.{ap, ◌∙◌}
 use Rattle.shape.specs.Signs.{sign}
 use Rattle.checks.specs.Answers.{with_served}

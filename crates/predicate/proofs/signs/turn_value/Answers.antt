@@ -1,6 +1,5 @@
 -- `predicate::signs::turn_value` meets its contract: what the checks refuse is refused, and the determinant of any other list is served.
 -- Assumes nothing.
-use borrow.Author.Rules.{rules}
 use mathlib.Core.Path.{ap, ◌∙◌}
 use mir.Syntax.{w64}
 use Rattle.algebra.proofs.Machine.{returned}

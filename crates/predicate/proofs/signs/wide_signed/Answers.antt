@@ -1,6 +1,5 @@
 -- `predicate::signs::wide_signed` meets its contract: a refusal stays, and a value becomes its sign.
 -- Assumes nothing.
-use borrow.Author.Rules.{rules}
 use mathlib.Core.Path.{sym, ap, ◌∙◌}
 use Rattle.shape.specs.Signs.{sign}
 use Rattle.checks.specs.Answers.{served, with_served}

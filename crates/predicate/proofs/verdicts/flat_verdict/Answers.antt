@@ -1,6 +1,5 @@
 -- `predicate::verdicts::flat_verdict` meets its contract: what the checks refuse is refused, and what they pass is judged by the definition.
 -- Assumes nothing.
-use borrow.Author.Rules.{rules}
 use Rattle.checks.specs.Rules.{refuses_flat}
 use Rattle.predicate.proofs.PairLaws.{found_fine, refused_by_checks, judged}
 use Rattle.predicate.proofs.verdicts.flat_verdict.Goals as goal

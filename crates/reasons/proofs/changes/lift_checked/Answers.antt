@@ -1,6 +1,5 @@
 -- `reasons::changes::lift_checked` meets its contract: 6 comes first, then 9. Assumes nothing.
 use mathlib.Core.Path.{sym, ◌∙◌}
-use borrow.Author.Rules.{rules}
 use Rattle.reasons.proofs.Orders.{marked, lift_refused, lift_6, lift_9, lift_fine}
 use Rattle.reasons.proofs.changes.lift_checked.Goals as goal
 

@@ -1,5 +1,4 @@
 -- `reasons::changes::placing_checked` meets its contract: 6 comes first, then 7, and then the checks of the triangle. Assumes nothing.
-use borrow.Author.Rules.{rules}
 use borrow.Author.Tests.{lt-ltb, le-ltb}
 use Rattle.reasons.proofs.changes.placing_checked.Goals as goal
 

@@ -1,6 +1,5 @@
 -- `reasons::changes::triangle_checked` meets its contract: 3 comes first, and the numbers are looked at where there are nine. Assumes nothing.
 use mathlib.Core.Path.{sym, ap, ◌∙◌}
-use borrow.Author.Rules.{rules}
 use Rattle.checks.specs.Rules.{refuses_flat, shape_checks}
 use Rattle.checks.specs.Told.{told_check}
 use Rattle.checks.proofs.AnswerLaws.{stopped, passed_on}

@@ -1,5 +1,4 @@
 -- `reasons::changes::undo_checked` meets its contract: 12 at reach 0. Assumes nothing.
-use borrow.Author.Rules.{rules}
 use borrow.Author.Tests.{eq-eqb, ne_eqb}
 use Rattle.reasons.proofs.changes.undo_checked.Goals as goal
 

@@ -1,15 +1,11 @@
 -- `slots::coordinates::lowest_leaving` meets its contract: no slot before i leaves the grid, so the first that does is the lowest. Assumes nothing.
 use mathlib.Core.Path.{◌≡◌, sym, ◌∙◌}
-use mathlib.Core.Bool.{false}
-use mathlib.Core.List.{List}
-use Prim.Native.Nat.{ℕ, suc, ◌-◌, ◌<◌, ◌≤◌}
 use native.Mathlib.Omega.{arith}
 use borrow.Author.Count.{below_none, below_more}
 use borrow.Author.Rules.{rules}
-use lib.ListN.{length, get_or}
-use Rattle.slots.specs.Slots.{Slot, free}
+use lib.ListN.{length}
+use Rattle.slots.specs.Slots.{free}
 use Rattle.slots.specs.Leaving.{leaves}
-use Rattle.slots.specs.Showing.{Shown}
 use Rattle.shape.proofs.ListLaws.{lowest_at, lowest_none}
 use Rattle.slots.proofs.coordinates.lowest_leaving.Goals as goal
 

@@ -1,17 +1,15 @@
 -- `slots::coordinates::move_part` meets its contract: the coordinates are those of the slots with the first i moved, and the next slot is moved as
 -- `move_slot` promises. Assumes nothing.
-use mathlib.Core.Path.{◌≡◌, ap, ◌∙◌}
+use mathlib.Core.Path.{◌≡◌}
 use mathlib.Core.List.{List, map}
 use Prim.Native.Nat.{ℕ, suc, ◌-◌, ◌≤◌}
-use native.Mathlib.Omega.{arith}
-use borrow.Author.Rules.{rules}
 use lib.ListN.{length}
 use Rattle.moving.specs.Moves.{steps}
 use Rattle.slots.specs.Slots.{Slot}
 use Rattle.slots.specs.Changes.{shifted}
 use Rattle.slots.specs.Arrays.{flat}
 use Rattle.slots.specs.Showing.{Fit, Shown}
-use Rattle.slots.proofs.PartLaws.{begun, begun_all, begun_more}
+use Rattle.slots.proofs.PartLaws.{begun}
 use Rattle.slots.proofs.coordinates.move_part.Given as goal
 
 abbrev pub invariant-loop-i : goal.invariant-loop-i

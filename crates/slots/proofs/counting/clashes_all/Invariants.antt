@@ -1,14 +1,11 @@
 -- `slots::counting::clashes_all` meets its contract: n are the clashes of those of the first i slots that have the mark. Assumes nothing.
-use mathlib.Core.Path.{◌≡◌, refl, ◌∙◌}
+use mathlib.Core.Path.{◌≡◌}
 use mathlib.Core.List.{List}
 use Prim.Native.Nat.{◌-◌, ◌*◌, ◌≤◌}
-use native.Mathlib.Omega.{arith}
-use borrow.Author.Rules.{rules}
 use lib.ListN.{take}
 use Rattle.slots.specs.Slots.{Slot}
 use Rattle.slots.specs.Counting.{cross}
 use Rattle.slots.specs.Showing.{Shown}
-use Rattle.slots.proofs.Counts.{cross_more, cross_all}
 use Rattle.slots.proofs.counting.clashes_all.Given as goal
 
 abbrev pub invariant-loop-i : goal.invariant-loop-i

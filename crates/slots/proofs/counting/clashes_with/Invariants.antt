@@ -1,16 +1,11 @@
 -- `slots::counting::clashes_with` meets its contract: n are the clashes of the slot with the first j slots. Assumes nothing.
-use mathlib.Core.Path.{◌≡◌, refl, sym, ◌∙◌}
+use mathlib.Core.Path.{◌≡◌}
 use mathlib.Core.List.{List}
 use Prim.Native.Nat.{◌-◌, ◌≤◌}
-use native.Mathlib.Omega.{arith}
-use borrow.Author.Rules.{rules}
 use lib.ListN.{get_or, take}
 use Rattle.slots.specs.Slots.{Slot, free}
 use Rattle.slots.specs.Counting.{row}
 use Rattle.slots.specs.Showing.{Shown}
-use Rattle.exact.proofs.Branches.{bit≤}
-use Rattle.slots.proofs.Counts.{row_unmarked, row_more, row_all}
-use Rattle.slots.proofs.Arrays.{mark_is}
 use Rattle.slots.proofs.counting.clashes_with.Given as goal
 
 abbrev pub invariant-loop-j : goal.invariant-loop-j

@@ -1,14 +1,9 @@
 -- `slots::counting::has_mark` meets its contract: no slot before i has the mark, so the first that has it is found. Assumes nothing.
-use mathlib.Core.Path.{◌≡◌, sym}
+use mathlib.Core.Path.{◌≡◌}
 use mathlib.Core.Bool.{false}
 use Prim.Native.Nat.{ℕ, ◌-◌, ◌<◌, ◌≤◌}
-use native.Mathlib.Omega.{arith}
-use borrow.Author.Count.{below_none, below_more}
-use borrow.Author.Rules.{rules}
-use borrow.Author.Tests.{eq-eqb, ne_eqb}
 use lib.ListN.{length, get_or}
 use Rattle.slots.specs.Counting.{has_mark}
-use Rattle.shape.proofs.ListLaws.{some_at, some_none}
 use Rattle.slots.proofs.counting.has_mark.Given as goal
 
 abbrev pub invariant-loop-i : goal.invariant-loop-i

@@ -1,15 +1,10 @@
 -- `slots::counting::marks_clash` meets its contract: no slot of the first mark before i clashes with a slot of the second. Assumes nothing.
-use mathlib.Core.Path.{◌≡◌, sym, ◌∙◌}
-use mathlib.Core.Bool.{false}
-use mathlib.Core.List.{List}
-use Prim.Native.Nat.{ℕ, ◌-◌, ◌<◌, ◌≤◌}
+use mathlib.Core.Path.{sym, ◌∙◌}
 use native.Mathlib.Omega.{arith}
 use borrow.Author.Count.{below_none, below_more}
 use borrow.Author.Rules.{rules}
-use lib.ListN.{get_or}
-use Rattle.slots.specs.Slots.{Slot, free}
+use Rattle.slots.specs.Slots.{free}
 use Rattle.slots.specs.Counting.{slot_strikes}
-use Rattle.slots.specs.Showing.{Shown}
 use Rattle.shape.proofs.ListLaws.{some_at, some_none}
 use Rattle.slots.proofs.counting.marks_clash.Goals as goal
 

@@ -1,6 +1,5 @@
 -- `slots::counting::marks_strike` meets its contract: on slots that accepted changes left the coordinates are on the grid. Assumes nothing.
 use mathlib.Core.Path.{sym, ◌∙◌}
-use borrow.Author.Rules.{rules}
 use Rattle.slots.proofs.Grids.{never_off}
 use Rattle.slots.proofs.counting.marks_strike.Goals as goal
 

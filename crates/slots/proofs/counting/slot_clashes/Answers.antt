@@ -1,6 +1,5 @@
 -- `slots::counting::slot_clashes` meets its contract: on slots that accepted changes left the coordinates are on the grid. Assumes nothing.
 use mathlib.Core.Path.{sym, ◌∙◌}
-use borrow.Author.Rules.{rules}
 use Rattle.slots.proofs.Grids.{never_off}
 use Rattle.slots.proofs.counting.slot_clashes.Goals as goal
 

@@ -2,7 +2,6 @@
 -- Assumes nothing.
 use mathlib.Core.Path.{refl}
 use mathlib.Core.Bool.{false}
-use borrow.Author.Rules.{rules}
 use lib.ListN.{get_or}
 use Rattle.exact.proofs.Branches.{if_equal, if_different}
 use Rattle.slots.specs.Slots.{free}

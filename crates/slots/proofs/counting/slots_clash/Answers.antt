@@ -1,6 +1,5 @@
 -- `slots::counting::slots_clash` meets its contract: the marks decide, and where they leave it open the pair test does. Assumes nothing.
 use mathlib.Core.Path.{sym, ◌∙◌}
-use borrow.Author.Rules.{rules}
 use Rattle.slots.proofs.Clashing.{strikes_sym}
 use Rattle.slots.proofs.Counts.{strikes_free, strikes_same}
 use Rattle.slots.proofs.Arrays.{mark_is}

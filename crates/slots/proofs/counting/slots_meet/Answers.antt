@@ -1,5 +1,4 @@
 -- `slots::counting::slots_meet` meets its contract: the pair test is asked of the nine numbers of two slots, which are on the grid. Assumes nothing.
-use borrow.Author.Rules.{rules}
 use Rattle.slots.proofs.Grids.{nine_ready}
 use Rattle.slots.proofs.Verdicts.{meets_slots}
 use Rattle.slots.proofs.counting.slots_meet.Goals as goal

@@ -1,16 +1,12 @@
 -- `slots::counting::strikes_mark` meets its contract: no slot of this mark before j clashes with slot i. Assumes nothing.
-use mathlib.Core.Path.{◌≡◌, sym, ◌∙◌}
+use mathlib.Core.Path.{◌≡◌}
 use mathlib.Core.Bool.{false}
 use mathlib.Core.List.{List}
 use Prim.Native.Nat.{ℕ, ◌-◌, ◌<◌, ◌≤◌}
-use native.Mathlib.Omega.{arith}
-use borrow.Author.Count.{below_none, below_more}
-use borrow.Author.Rules.{rules}
 use lib.ListN.{get_or}
 use Rattle.slots.specs.Slots.{Slot, free}
 use Rattle.slots.specs.Counting.{strikes_if}
 use Rattle.slots.specs.Showing.{Shown}
-use Rattle.shape.proofs.ListLaws.{some_at, some_none}
 use Rattle.slots.proofs.counting.strikes_mark.Given as goal
 
 abbrev pub invariant-loop-j : goal.invariant-loop-j

@@ -1,7 +1,6 @@
 -- `slots::counting::strikes_slot` meets its contract: the mark of slot j decides, and then whether the two slots clash. Assumes nothing.
 use mathlib.Core.Path.{refl}
 use mathlib.Core.Bool.{false}
-use borrow.Author.Rules.{rules}
 use lib.ListN.{get_or}
 use Rattle.exact.proofs.Branches.{if_equal, if_different}
 use Rattle.slots.specs.Slots.{free}

@@ -1,14 +1,6 @@
 -- `slots::gathering::gather_part` meets its contract: the list holds the triangles of the part among the first i slots. Assumes nothing.
-use mathlib.Core.Path.{◌≡◌, ◌∙◌}
-use mathlib.Core.List.{List}
-use Prim.Native.Nat.{ℕ, suc, ◌-◌, ◌≤◌}
+use mathlib.Core.Path.{◌∙◌}
 use native.Mathlib.Omega.{arith}
-use lib.ListN.{take}
-use Rattle.shape.specs.TriangleLists.{triangles_in}
-use Rattle.exact.specs.Grid.{Ready}
-use Rattle.slots.specs.Slots.{Slot}
-use Rattle.slots.specs.Parts.{triangles_of}
-use Rattle.slots.specs.Showing.{Shown}
 use Rattle.slots.proofs.PartTriangles.{gathered_none, gathered_all}
 use borrow.Author.Rules.{rules}
 use Rattle.slots.proofs.gathering.gather_part.Goals as goal

@@ -14,7 +14,6 @@ use Rattle.slots.specs.Arrays.{numbers_of}
 use Rattle.slots.proofs.Arrays.{numbers_are}
 use Rattle.slots.proofs.Grids.{nine_ready, put_ready}
 use Rattle.slots.proofs.PartTriangles.{gathered_pass, gathered_more, triangle_put}
-use borrow.Author.Rules.{rules}
 use Rattle.slots.proofs.gathering.gather_slot.Goals as goal
 
 pub returns-then-marks-i : goal.returns-then-marks-i
