@@ -2,8 +2,8 @@
 # tools/library.sh and tools/toolchain.sh.
 #
 # build_example makes a program from examples/c/PROGRAM.c and, where that calls it, the library, which is x86-64 code: on x86-64
-# with cc and its C library; on another processor, or where there is no cc, with the compiler, the linker, the C library and, if
-# need be, the emulator of the Rattle kit. run_example runs it, once it is made, from whatever folder.
+# with cc and its C library; where there is no cc, with the compiler, the linker and the C library of the Rattle kit; on another
+# processor with its C library, and a compiler, a linker and an emulator from the PATH. run_example runs it, once it is made, from whatever folder.
 out=$PWD/target/example
 
 build_example() { # PROGRAM
