@@ -7,6 +7,8 @@
 --   Comparing     two compare as their numbers do
 --   Errors        how errors add up
 --   Sides         the theorem: the estimate of a side is within 15 · 2^40 of it
+--   Limit         how far it may be off, as a double
+--   Signs         what a number so near to the side tells of it
 --   Told          so its sign tells that of the side, where it is farther than that from zero
 --   EstimateRows  points and their estimates, by computing
 pub mod Nearest
@@ -17,5 +19,7 @@ pub mod Sums
 pub mod Comparing
 pub mod Errors
 pub mod Sides
+pub mod Limit
+pub mod Signs
 pub mod Told
 pub mod EstimateRows

@@ -2,7 +2,7 @@
 -- specs/Doubles.antt is a law here. Assumes nothing.
 use mathlib.Core.Path.{◌≡◌, refl, sym, ◌∙◌, subst}
 use mathlib.Core.List.{[], ◌∷◌}
-use Prim.Native.Nat.{ℕ, ◌*◌, ◌^◌, ◌≤◌}
+use Prim.Native.Nat.{ℕ, ◌+◌, ◌*◌, ◌^◌, ◌≤◌}
 use native.Mathlib.Omega.{arith}
 use lib.Dec.{lit≤}
 use lib.IntN.{ℤ, nat_abs, ◌+ℤ◌, ◌-ℤ◌, ◌*ℤ◌, neg_ℤ-neg_ℤ}
@@ -14,7 +14,7 @@ use Rattle.shape.specs.Signs.{row, side}
 use Rattle.shape.specs.Normals.{dot, normal_of}
 use Rattle.shape.proofs.Planes.{side_by_normal}
 use Rattle.shape.proofs.SignLaws.{carry_past}
-use Rattle.estimates.specs.Doubles.{OnGrid, double, rough, component, plane_of, product, estimate, Near, error_limit}
+use Rattle.estimates.specs.Doubles.{grid_end, OnGrid, double, rough, component, plane_of, product, estimate, Near, error_limit}
 use Rattle.estimates.specs.declared.Plane.{Plane}
 use Rattle.estimates.specs.declared.RoughPoint.{RoughPoint}
 use Rattle.estimates.proofs.Wholes.{Estimates, double_whole}
@@ -33,15 +33,19 @@ side_from_a a b c d =
     ∙ sym (carry_past [] a (b ∷ c ∷ []) (d ∷ []) ∙ neg_ℤ-neg_ℤ (side b c a d))
 
 -- ---- the table, line by line
+-- How large a difference of coordinates can be, 2^31.
+abbrev gap_size : ℕ
+gap_size = grid_end + grid_end
+
 -- A difference of coordinates.
-gap_exact : (a b : Point) → OnGrid a → OnGrid b → (i : ℕ) → Exactly (sub binary64 (double (coord i a)) (double (coord i b))) (coord i a -ℤ coord i b) (2 ^ 31)
+gap_exact : (a b : Point) → OnGrid a → OnGrid b → (i : ℕ) → Exactly (sub binary64 (double (coord i a)) (double (coord i b))) (coord i a -ℤ coord i b) gap_size
 gap_exact a b on-a on-b i = difference_exact (coordinate a on-a) (coordinate b on-b) (lit≤ tt)
   where
-    coordinate : (p : Point) → OnGrid p → Exactly (double (coord i p)) (coord i p) (2 ^ 30)
+    coordinate : (p : Point) → OnGrid p → Exactly (double (coord i p)) (coord i p) grid_end
     coordinate p on = record { whole = double_whole (coord i p) (omega (arith, on i)); size = on i }
 
 -- A component.
-component_estimates : {p q s t : Float} {i j k l : ℤ} → Exactly p i (2 ^ 31) → Exactly q j (2 ^ 31) → Exactly s k (2 ^ 31) → Exactly t l (2 ^ 31) →
+component_estimates : {p q s t : Float} {i j k l : ℤ} → Exactly p i gap_size → Exactly q j gap_size → Exactly s k gap_size → Exactly t l gap_size →
     Estimates (component p q s t) (i *ℤ j -ℤ k *ℤ l) (2 ^ 11) (2 ^ 63)
 component_estimates p q s t =
     difference_estimates 10 (product_of_exact 9 p q (lit≤ tt) (lit≤ tt)) (product_of_exact 9 s t (lit≤ tt) (lit≤ tt)) (lit≤ tt) (lit≤ tt)
@@ -49,7 +53,7 @@ component_estimates p q s t =
 -- Three components times three differences, added left to right.
 product_near : {n : Plane} {u : RoughPoint} {i j k x y z : ℤ} →
     Estimates n.x i (2 ^ 11) (2 ^ 63) → Estimates n.y j (2 ^ 11) (2 ^ 63) → Estimates n.z k (2 ^ 11) (2 ^ 63) →
-    Exactly u.x x (2 ^ 31) → Exactly u.y y (2 ^ 31) → Exactly u.z z (2 ^ 31) →
+    Exactly u.x x gap_size → Exactly u.y y gap_size → Exactly u.z z gap_size →
     Estimates (product n u) (i *ℤ x +ℤ j *ℤ y +ℤ k *ℤ z) (30 * 2 ^ 40) (2 ^ 96)
 product_near nx ny nz ux uy uz =
     sum_estimates 43
