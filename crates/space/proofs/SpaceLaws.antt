@@ -67,7 +67,7 @@ module _ {p s : ℕ} (found : Stands p s) (close : Bool) (crossing : ℕ → Boo
   if_within e a = as_told (a ∙ ap (λ (n : ℕ). by_standing (told_standing n) close crossing) (sym e))
 
   pub if_alone : (s ≡ 0 → ⊥) → (s ≡ 1 → ⊥) → answer ≡ crossing (turns_in s) (swap_in s) → answer ≡ by_standing (standing p) close crossing
-  if_alone not-0 not-1 a = as_told (a ∙ numbered s not-0 not-1)
+  if_alone not_0 not_1 a = as_told (a ∙ numbered s not_0 not_1)
     where
       numbered : (n : ℕ) → (n ≡ 0 → ⊥) → (n ≡ 1 → ⊥) → crossing (turns_in n) (swap_in n) ≡ by_standing (told_standing n) close crossing
       numbered zero h k = absurd (h refl)
@@ -88,7 +88,7 @@ module _ {a b c : Point} {t : SpaceTriangle} (at : SpaceAt a b c t) where
 
 pub spaces_at : {a b c p q r : Point} {t u : SpaceTriangle} → SpaceAt a b c t → SpaceAt p q r u → {X : Type 0} (f : (p1 q1 r1 p2 q2 r2 : Point) → X) →
     of_spaces f t u ≡ f a b c p q r
-spaces_at at-t at_u f = λ i. f (at-t.at_p i) (at-t.at_q i) (at-t.at_r i) (at_u.at_p i) (at_u.at_q i) (at_u.at_r i)
+spaces_at at_t at_u f = λ i. f (at_t.at_p i) (at_t.at_q i) (at_t.at_r i) (at_u.at_p i) (at_u.at_q i) (at_u.at_r i)
 
 -- The triangle of a list that passed its checks.
 pub sized_triangle : {l : List ℤ} {t : SpaceTriangle} → Ready 9 l → SpaceAt (point_at 3 0 l) (point_at 3 3 l) (point_at 3 6 l) t → SizedSpace limit t
@@ -137,8 +137,8 @@ held_so ep eq en h = record { below = subst (λ (z : ℤ). nat_abs z < 2 ^ 63) (
 pub sides_held : {k l : List ℤ} {t u : SpaceTriangle} {n : SpacePoint} → SidesHold k l →
     SpaceAt (point_at 3 0 k) (point_at 3 3 k) (point_at 3 6 k) t → SpaceAt (point_at 3 0 l) (point_at 3 3 l) (point_at 3 6 l) u → spatial n ≡ normal_in l →
     Holds (row (spatial u.r) (spatial t.p)) (spatial n) × Holds (row (spatial u.r) (spatial t.q)) (spatial n) × Holds (row (spatial u.r) (spatial t.r)) (spatial n)
-sides_held h at-t at_u e =
-    (held_so at_u.at_r at-t.at_p e h.at_p, held_so at_u.at_r at-t.at_q e h.at_q, held_so at_u.at_r at-t.at_r e h.at_r)
+sides_held h at_t at_u e =
+    (held_so at_u.at_r at_t.at_p e h.at_p, held_so at_u.at_r at_t.at_q e h.at_q, held_so at_u.at_r at_t.at_r e h.at_r)
 
 -- The level over the plane through c that has the normal of a, b, c.
 pub level_told : {n : Point} (a b c d : Point) → n ≡ normal_of a b c → digit (sign (dot (row c d) n)) ≡ level a b c d
@@ -198,8 +198,8 @@ module _ (s r : ℕ) (l : List ℤ) {t : SpaceTriangle} (at : InOrder s r l t) w
 -- The last signs of two triangles that were read so.
 pub last_in_order : (s r : ℕ) (k l : List ℤ) {t u : SpaceTriangle} → InOrder s r k t → InOrder r s l u → Numbered s → Numbered r →
     of_spaces last_signs t u ≡ last_signs_by s r k l
-last_in_order s r k l {t} {u} at-t at_u hs hr =
-    of_in_order s r k at-t hs hr (λ a b c. of_space (last_signs a b c) u)
+last_in_order s r k l {t} {u} at_t at_u hs hr =
+    of_in_order s r k at_t hs hr (λ a b c. of_space (last_signs a b c) u)
     ∙ (λ i. of_list (placed (turns_in s) (swap_in r) (λ a b c. of_in_order r s l at_u hr hs (last_signs a b c) i)) k)
 
 -- The answer is that neither of two tests is passed.

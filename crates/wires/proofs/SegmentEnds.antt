@@ -78,16 +78,16 @@ module _ (p q a b c : Point) {e : ℕ} (ends : e ≡ ends_over p q a b c) where
   -- One higher than the other.
   pub ends_through : {answer : Bool} → (e % 8 ≡ 0 → ⊥) → (e ≡ 4 → ⊥) → answer ≡ cond (ltb (e / 3) (e % 3)) (past_no_edge q p a b c) (past_no_edge p q a b c) →
       answer ≡ segment_triangle_test p q a b c
-  ends_through not-beside not-level found =
+  ends_through not_beside not_level found =
       let small_p = digit_small (side a b c p) in
       let small_q = digit_small (side a b c q) in
       let at_p : e / 3 ≡ level a b c p = omega arith in
       let at_q : e % 3 ≡ level a b c q = omega arith in
-      if_left _ _ refl (never_flat not-level)
+      if_left _ _ refl (never_flat not_level)
       (if_left _ _ refl (ne_eqb (level a b c p) (level a b c q) (λ same. by_cases ⊥ (level a b c p) 0 3 (omega arith) (omega arith)
-      (λ below. not-beside (ap (λ (n : ℕ). n % 8) {x = e} {y = 0} (omega arith)))
-      (λ on. not-level (omega arith))
-      (λ above. not-beside (ap (λ (n : ℕ). n % 8) {x = e} {y = 8} (omega arith)))))
+      (λ below. not_beside (ap (λ (n : ℕ). n % 8) {x = e} {y = 0} (omega arith)))
+      (λ on. not_level (omega arith))
+      (λ above. not_beside (ap (λ (n : ℕ). n % 8) {x = e} {y = 8} (omega arith)))))
       (found ∙ (λ i. cond (ltb (at_p i) (at_q i)) (past_no_edge q p a b c) (past_no_edge p q a b c))))
 
 -- The higher end by its place in the list.

@@ -86,4 +86,4 @@ pub returns-in-26 : goal.returns-in-26
 returns-in-26 c = stands c.in-26.is refl (search rules)
 
 pub returns-in-27-to-4294967295 : goal.returns-in-27-to-4294967295
-returns-in-27-to-4294967295 c = past_patterns c.args.pattern c.in-27-to-4294967295.in-27-to-4294967295-own.rest c.requires
+returns-in-27-to-4294967295 c = past_patterns c.args.pattern (search rules) c.requires

@@ -29,7 +29,7 @@ meet_in_plane-requires c =
 
 pub returns : goal.returns
 returns c =
-    let at-t = c.space_triangle-a.ensures in
+    let at_t = c.space_triangle-a.ensures in
     let at_u = c.space_triangle-b.ensures in
-    if_left _ _ (flat_read at-t c.normal_of.ensures c.is_null.ensures) c.if-is_null.false
-    (if_left _ _ (flat_read at_u c.normal_of-n.ensures c.is_null-2.ensures) c.if-is_null-2.false (c.meet_in_plane.ensures ∙ spaces_at at-t at_u in_plane_test))
+    if_left _ _ (flat_read at_t c.normal_of.ensures c.is_null.ensures) c.if-is_null.false
+    (if_left _ _ (flat_read at_u c.normal_of-n.ensures c.is_null-2.ensures) c.if-is_null-2.false (c.meet_in_plane.ensures ∙ spaces_at at_t at_u in_plane_test))
