@@ -1,6 +1,5 @@
 -- `boxes::boxes::apart_along` meets its contract: the two tests are of the numbers read. Assumes nothing.
 use mathlib.Core.Path.{refl}
-use borrow.Author.Rules.{rules}
 use Rattle.exact.proofs.Branches.{if_taken, if_left}
 use Rattle.boxes.proofs.BoxLaws.{before_read}
 use Rattle.boxes.proofs.boxes.apart_along.Goals as goal

@@ -1,5 +1,4 @@
 -- `boxes::boxes::greatest_at` meets its contract: the larger of two corners, and then of that and the third. Assumes nothing.
-use borrow.Author.Rules.{rules}
 use Rattle.boxes.specs.Boxes.{larger}
 use Rattle.boxes.proofs.BoxLaws.{best_read}
 use Rattle.boxes.proofs.boxes.greatest_at.Goals as goal

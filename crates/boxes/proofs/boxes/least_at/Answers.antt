@@ -1,5 +1,4 @@
 -- `boxes::boxes::least_at` meets its contract: the smaller of two corners, and then of that and the third. Assumes nothing.
-use borrow.Author.Rules.{rules}
 use Rattle.boxes.specs.Boxes.{smaller}
 use Rattle.boxes.proofs.BoxLaws.{best_read}
 use Rattle.boxes.proofs.boxes.least_at.Goals as goal

@@ -1,11 +1,9 @@
 -- `boxes::boxes::put_boxes` meets its contract: the boxes before i are written, and the next leaves them. Assumes nothing.
 use mathlib.Core.Path.{refl}
-use Prim.Native.Nat.{◌-◌, ◌*◌}
+use Prim.Native.Nat.{◌*◌}
 use native.Mathlib.Omega.{arith}
-use borrow.Author.Rules.{rules}
 use Rattle.algebra.proofs.Parts.{length_lent}
-use Rattle.boxes.specs.Boxes.{box_of}
-use Rattle.boxes.proofs.Rows.{Written, none_written, one_more}
+use Rattle.boxes.proofs.Rows.{none_written, one_more}
 use Rattle.boxes.proofs.boxes.put_boxes.Goals as goal
 
 pub loop-i-init : goal.loop-i-init

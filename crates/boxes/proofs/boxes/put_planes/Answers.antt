@@ -1,11 +1,9 @@
 -- `boxes::boxes::put_planes` meets its contract: the planes before i are written, and the next leaves them. Assumes nothing.
 use mathlib.Core.Path.{refl}
-use Prim.Native.Nat.{◌-◌, ◌*◌}
+use Prim.Native.Nat.{◌*◌}
 use native.Mathlib.Omega.{arith}
-use borrow.Author.Rules.{rules}
 use Rattle.algebra.proofs.Parts.{length_lent}
-use Rattle.exact.specs.Vectors.{plane_row}
-use Rattle.boxes.proofs.Rows.{Written, lent_ready, none_written, one_more}
+use Rattle.boxes.proofs.Rows.{lent_ready, none_written, one_more}
 use Rattle.boxes.proofs.boxes.put_planes.Goals as goal
 
 pub loop-i-init : goal.loop-i-init

@@ -1,11 +1,7 @@
 -- `boxes::boxes::put_planes` meets its contract: the planes before i are written, and the next leaves them. Assumes nothing.
-use mathlib.Core.Path.{refl}
-use Prim.Native.Nat.{◌-◌, ◌*◌}
-use native.Mathlib.Omega.{arith}
-use borrow.Author.Rules.{rules}
-use Rattle.algebra.proofs.Parts.{length_lent}
+use Prim.Native.Nat.{◌-◌}
 use Rattle.exact.specs.Vectors.{plane_row}
-use Rattle.boxes.proofs.Rows.{Written, lent_ready, none_written, one_more}
+use Rattle.boxes.proofs.Rows.{Written}
 use Rattle.boxes.proofs.boxes.put_planes.Given as goal
 
 abbrev pub invariant-loop-i : goal.invariant-loop-i

@@ -1,7 +1,6 @@
 -- `boxes::boxes::put_planes_unless` meets its contract: a flag that is set is not clear. Assumes nothing.
 use mathlib.Core.Path.{sym, ◌∙◌}
 use Rattle.kernel.proofs.Stages.{no_flag}
-use borrow.Author.Rules.{rules}
 use Rattle.boxes.proofs.boxes.put_planes_unless.Goals as goal
 
 pub returns-then-spared : goal.returns-then-spared

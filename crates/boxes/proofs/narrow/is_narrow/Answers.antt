@@ -2,8 +2,7 @@
 use mathlib.Core.Path.{◌≡◌, subst}
 use mathlib.Core.Bool.{Bool, false}
 use mathlib.Core.List.{List, [], ◌∷◌}
-use mathlib.Core.Logic.{⊎_elim}
-use Prim.Native.Nat.{ℕ, zero, suc, ◌+◌, ◌-◌, ◌^◌, ◌≤◌, ◌<◌}
+use Prim.Native.Nat.{ℕ, zero, suc, ◌+◌, ◌^◌, ◌≤◌, ◌<◌}
 use native.Mathlib.Omega.{arith}
 use lib.IntN.{ℤ, pos, nat_abs}
 use lib.ListN.{length, get_or}
@@ -12,7 +11,6 @@ use mir.Syntax.{w32}
 use mir.Val.{to_z, of_z, hbits}
 use borrow.Author.Rules.{rules}
 use borrow.Author.Count.{below_none, below_more}
-use borrow.Author.Tests.{not-true, not-false}
 use Rattle.shape.specs.Verdicts.{Says}
 use Rattle.shape.proofs.VerdictLaws.{says_yes, says_no, says_same}
 use Rattle.exact.specs.Small.{narrow, Narrow}
@@ -49,8 +47,9 @@ loop-i-preserved c =
     let says = stored (get_or l i (pos 0)) c.is_small-arg-1.given c.is_small.ensures in (
       search rules,
       elim c.if-not-is_small.branch [
-        then-not-is_small w ↦ down l i (says.no w.if-not-is_small.true) w.narrow-is
-        | else-not-is_small w ↦ stays l i (says.yes w.if-not-is_small.false) w.narrow-is c.loop-i.invariant.1 ],
+        | then-not-is_small w ↦ down l i (says.no w.if-not-is_small.true) w.narrow-is
+        | else-not-is_small w ↦ stays l i (says.yes w.if-not-is_small.false) w.narrow-is c.loop-i.invariant.1
+      ],
     )
 
 pub returns : goal.returns

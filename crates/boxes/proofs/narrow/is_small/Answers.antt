@@ -1,5 +1,4 @@
 -- `boxes::narrow::is_small` meets its contract: the two ends are those of the size. Assumes nothing.
-use borrow.Author.Rules.{rules}
 use mir.Facts.{to_z-of_z}
 use Rattle.exact.proofs.Holding.{says_small}
 use Rattle.boxes.proofs.narrow.is_small.Goals as goal

@@ -2,7 +2,6 @@
 -- nothing.
 use native.Mathlib.Omega.{arith}
 use Rattle.exact.proofs.Branches.{both_true}
-use borrow.Author.Rules.{rules}
 use Rattle.deciding.proofs.deciding.decide_lists.Goals as goal
 
 pub decide_words-requires : goal.decide_words-requires

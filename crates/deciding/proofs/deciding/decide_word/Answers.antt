@@ -3,7 +3,6 @@ use mathlib.Core.Path.{refl}
 use Rattle.words.proofs.BitLaws.{bit_of_none}
 use Rattle.deciding.proofs.Rounds.{lined_among, normalled_among, planed_among}
 use Rattle.deciding.proofs.WordLaws.{corners_lined, corners_normalled, corners_planed, second_lined, second_normalled, second_planed, kept_candidates, kept_clear, alone_candidates, close_candidates, alone_clear, all_alone, all_stood, word_decided}
-use borrow.Author.Rules.{rules}
 use Rattle.deciding.proofs.deciding.decide_word.Goals as goal
 
 pub candidates_stand-first-requires : goal.candidates_stand-first-requires

@@ -1,14 +1,8 @@
 -- `deciding::deciding::decide_words` meets its contract: the words before k are decided, and the others still have their candidates. Assumes nothing.
-use mathlib.Core.Path.{◌≡◌, refl, subst, ◌∙◌}
-use Prim.Native.Nat.{ℕ, ◌-◌, ◌*◌, ◌/◌, ◌<◌, ◌≤◌}
-use native.Mathlib.Omega.{arith}
-use lib.ListN.{length, get_or, length-set}
-use lib.Seq.{get_or-set_other}
-use Rattle.words.specs.Spans.{first_of, span}
-use Rattle.boxes.specs.Triangles.{triangles, nine}
-use Rattle.deciding.specs.Words.{MayMeet, Decided}
-use Rattle.deciding.proofs.WordLaws.{decided_on, few_below}
-use borrow.Author.Rules.{rules}
+use mathlib.Core.Path.{◌≡◌}
+use Prim.Native.Nat.{ℕ, ◌-◌, ◌≤◌}
+use lib.ListN.{length, get_or}
+use Rattle.deciding.specs.Words.{Decided}
 use Rattle.deciding.proofs.deciding.decide_words.Given as goal
 
 abbrev pub invariant-loop-k : goal.invariant-loop-k

@@ -1,6 +1,5 @@
 -- `deciding::deciding::put_all_candidates` meets its contract: the boxes of both lists are known when they are sifted. Assumes nothing.
 use Rattle.deciding.proofs.WordLaws.{may_meet}
-use borrow.Author.Rules.{rules}
 use Rattle.deciding.proofs.deciding.put_all_candidates.Goals as goal
 
 pub returns : goal.returns

@@ -2,7 +2,6 @@
 use Prim.Native.Nat.{ℕ, ◌*◌, ◌≤◌}
 use native.Mathlib.Omega.{arith}
 use native.Mathlib.Nat.{mul-le-mul_right}
-use borrow.Author.Rules.{rules}
 use Rattle.deciding.proofs.places.index_of.Goals as goal
 
 few : (step place : ℕ) → step ≤ 1 → step * place ≤ 1 * place

@@ -1,6 +1,5 @@
 -- `deciding::standings::candidates_stand` meets its contract: what the estimate tells and what is found exactly are together what a stage leaves. Assumes nothing.
 use Rattle.deciding.proofs.Rounds.{parted_exactly, parted_both, open_posed}
-use borrow.Author.Rules.{rules}
 use Rattle.deciding.proofs.standings.candidates_stand.Goals as goal
 
 pub stand_low-requires : goal.stand_low-requires

@@ -1,6 +1,5 @@
 -- `deciding::standings::estimated_at` meets its contract: the triangles and the plane that are read are those of the lists. Assumes nothing.
 use Prim.Native.Nat.{◌*◌}
-use borrow.Author.Rules.{rules}
 use Rattle.algebra.proofs.Parts.{part}
 use Rattle.deciding.proofs.standings.estimated_at.Goals as goal
 

@@ -1,7 +1,6 @@
 -- `deciding::standings::exact_at` meets its contract: the triangles, the normal and the plane that are read are those of the lists. Assumes nothing.
 use Prim.Native.Nat.{◌*◌}
 use Rattle.algebra.proofs.Parts.{part}
-use borrow.Author.Rules.{rules}
 use Rattle.deciding.proofs.standings.exact_at.Goals as goal
 
 pub exact_standing-requires : goal.exact_standing-requires

@@ -7,7 +7,6 @@ use Rattle.words.proofs.LowestLaws.{lowest_found, lowest_is_set, rest_less}
 use Rattle.words.proofs.Filling.{filled_fits}
 use Rattle.deciding.specs.Stages.{SeemsAt, seems_alone, is_open}
 use Rattle.deciding.proofs.StageLaws.{Sorting, flagged, sorting_starts, sorting_on, sorting_ends}
-use borrow.Author.Rules.{rules}
 use Rattle.deciding.proofs.standings.stand_by_estimate.Goals as goal
 
 pub loop-left-init : goal.loop-left-init

@@ -1,6 +1,5 @@
 -- `deciding::standings::triangle_stands` meets its contract: as that of `candidates_stand`. Assumes nothing.
 use Rattle.deciding.proofs.Rounds.{parted_exactly, parted_both, open_posed}
-use borrow.Author.Rules.{rules}
 use Rattle.deciding.proofs.standings.triangle_stands.Goals as goal
 
 pub stand_low-requires : goal.stand_low-requires

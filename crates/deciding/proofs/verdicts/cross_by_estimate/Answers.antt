@@ -7,7 +7,6 @@ use Rattle.words.proofs.LowestLaws.{lowest_found, lowest_is_set, rest_less}
 use Rattle.words.proofs.Filling.{filled_fits}
 use Rattle.deciding.specs.Stages.{CrossedAt}
 use Rattle.deciding.proofs.StageLaws.{Parting, parting_starts, parting_on, parting_ends, crossed_at}
-use borrow.Author.Rules.{rules}
 use Rattle.deciding.proofs.verdicts.cross_by_estimate.Goals as goal
 
 pub loop-left-init : goal.loop-left-init

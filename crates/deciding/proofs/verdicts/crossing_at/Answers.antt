@@ -1,6 +1,5 @@
 -- `deciding::verdicts::crossing_at` meets its contract: the triangle that is read is that of the list. Assumes nothing.
 use Prim.Native.Nat.{◌*◌}
-use borrow.Author.Rules.{rules}
 use Rattle.algebra.proofs.Parts.{part}
 use Rattle.deciding.proofs.verdicts.crossing_at.Goals as goal
 

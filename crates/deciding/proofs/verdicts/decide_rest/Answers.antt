@@ -6,7 +6,6 @@ use Rattle.words.proofs.LowestLaws.{lowest_found, lowest_is_set, rest_less}
 use Rattle.words.proofs.Filling.{Filled, filled_starts, filled_fits}
 use Rattle.deciding.specs.Stages.{index_of, JudgedAt}
 use Rattle.deciding.proofs.StageLaws.{second_narrow_nine, flag_added, marked}
-use borrow.Author.Rules.{rules}
 use Rattle.deciding.proofs.verdicts.decide_rest.Goals as goal
 
 pub loop-left-init : goal.loop-left-init

@@ -1,6 +1,5 @@
 -- `listing::input::input_checked` meets its contract: the sizes, then the numbers of both lists. Assumes nothing.
 use mathlib.Core.Path.{◌≡◌, ap, ◌∙◌}
-use borrow.Author.Rules.{rules}
 use mathlib.Core.List.{List}
 use Prim.Native.Nat.{ℕ}
 use lib.IntN.{ℤ}

@@ -1,7 +1,6 @@
 -- `listing::input::list_length_checked` meets its contract: a length that fails either test is refused. Assumes nothing.
 use mathlib.Core.Path.{sym, ◌∙◌}
 use native.Mathlib.Omega.{arith}
-use borrow.Author.Rules.{rules}
 use Rattle.listing.proofs.ListChecks.{right_length_fine, wrong_length_refused}
 use Rattle.listing.proofs.input.list_length_checked.Goals as goal
 

@@ -1,5 +1,4 @@
 -- `listing::input::sizes_checked` meets its contract: the first of three checks that refuses counts. Assumes nothing.
-use borrow.Author.Rules.{rules}
 use Rattle.checks.proofs.AnswerLaws.{stopped, passed_on}
 use Rattle.listing.proofs.input.sizes_checked.Goals as goal
 

@@ -1,7 +1,6 @@
 -- `listing::pairs::list_found` meets its contract: the part of the buffer from the start on is lent to the pair writer where it has room. Assumes nothing.
 use Prim.Native.Nat.{◌*◌}
 use native.Mathlib.Omega.{arith}
-use borrow.Author.Rules.{rules}
 use Rattle.listing.proofs.Filling.{length_free}
 use Rattle.listing.proofs.Found.{length_numbers, no_room, enough_room}
 use Rattle.listing.proofs.Telling.{few_told}

@@ -1,6 +1,5 @@
 -- `listing::pairs::list_pairs` meets its contract: what the checks refuse is refused, and what they pass is listed. Assumes nothing.
 use mathlib.Core.Path.{sym, ap, ◌∙◌}
-use borrow.Author.Rules.{rules}
 use Rattle.checks.specs.Told.{told_check}
 use Rattle.listing.proofs.Found.{refused_rule}
 use Rattle.listing.proofs.pairs.list_pairs.Goals as goal

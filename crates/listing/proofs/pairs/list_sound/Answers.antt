@@ -1,7 +1,6 @@
 -- `listing::pairs::list_sound` meets its contract: all pairs are decided before one is written. Assumes nothing.
 use mathlib.Core.Path.{sym, ◌∙◌}
 use native.Mathlib.Omega.{arith}
-use borrow.Author.Rules.{rules}
 use Rattle.listing.proofs.Found.{found_rule}
 use Rattle.listing.proofs.Sound.{both_sound, start_within_law}
 use Rattle.listing.proofs.Telling.{length_told}

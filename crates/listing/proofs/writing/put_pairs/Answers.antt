@@ -1,9 +1,8 @@
 -- `listing::writing::put_pairs` meets its contract: each turn writes what the next word tells. Assumes nothing.
 use mathlib.Core.Path.{◌≡◌, ap, subst, ◌∙◌}
 use mathlib.Core.List.{List, ◌++◌}
-use Prim.Native.Nat.{ℕ, suc, ◌+◌, ◌-◌, ◌*◌, ◌<◌, ◌≤◌}
+use Prim.Native.Nat.{ℕ, suc, ◌+◌, ◌-◌, ◌*◌, ◌<◌}
 use native.Mathlib.Omega.{arith}
-use borrow.Author.Rules.{rules}
 use Rattle.listing.specs.Pairs.{gathered, two_each}
 use Rattle.listing.specs.Writing.{told_by}
 use Rattle.listing.proofs.Filling.{Filling, filling_starts, length_free, room_for_more, filled_on, filling_ends}

@@ -1,13 +1,8 @@
 -- `listing::writing::put_pairs` meets its contract: each turn writes what the next word tells. Assumes nothing.
-use mathlib.Core.Path.{◌≡◌, ap, subst, ◌∙◌}
-use mathlib.Core.List.{List, ◌++◌}
-use Prim.Native.Nat.{ℕ, suc, ◌+◌, ◌-◌, ◌*◌, ◌<◌, ◌≤◌}
-use native.Mathlib.Omega.{arith}
-use borrow.Author.Rules.{rules}
+use Prim.Native.Nat.{◌-◌, ◌≤◌}
 use Rattle.listing.specs.Pairs.{gathered, two_each}
 use Rattle.listing.specs.Writing.{told_by}
-use Rattle.listing.proofs.Filling.{Filling, filling_starts, length_free, room_for_more, filled_on, filling_ends}
-use Rattle.listing.proofs.Gathering.{two_each_append}
+use Rattle.listing.proofs.Filling.{Filling}
 use Rattle.listing.proofs.writing.put_pairs.Given as goal
 
 abbrev pub invariant-loop-k : goal.invariant-loop-k

@@ -2,7 +2,6 @@
 use Prim.Native.Nat.{◌<◌}
 use native.Mathlib.Omega.{arith}
 use native.Mathlib.Nat.{mul-le-mul_right}
-use borrow.Author.Rules.{rules}
 use Rattle.sifting.proofs.candidates.put_candidates.Goals as goal
 
 pub overflow_mul-n : goal.overflow_mul-n

@@ -1,5 +1,5 @@
 -- `sifting::candidates::put_one_by_one` meets its contract: the words before k are written, and the next leaves them. Assumes nothing.
-use mathlib.Core.Path.{◌≡◌, refl, subst, ◌∙◌}
+use mathlib.Core.Path.{refl, subst, ◌∙◌}
 use mathlib.Core.List.{List}
 use Prim.Native.Nat.{ℕ, ◌+◌, ◌-◌, ◌*◌, ◌/◌, ◌≤◌, ◌<◌}
 use native.Mathlib.Omega.{arith}
@@ -9,8 +9,7 @@ use Rattle.algebra.proofs.Copying.{written_hold}
 use Rattle.algebra.proofs.Parts.{part, length_lent}
 use Rattle.words.specs.Spans.{first_of, span}
 use Rattle.boxes.specs.Boxes.{six}
-use Rattle.sifting.specs.Tables.{Candidates, CandidatesBelow}
-use borrow.Author.Rules.{rules}
+use Rattle.sifting.specs.Tables.{Candidates}
 use Rattle.sifting.proofs.candidates.put_one_by_one.Goals as goal
 
 pub loop-k-init : goal.loop-k-init

@@ -1,12 +1,11 @@
 -- `sifting::candidates::put_row` meets its contract: the words before w are written, and those of the boxes before stay. Assumes nothing.
-use mathlib.Core.Path.{◌≡◌, refl, ◌∙◌}
-use Prim.Native.Nat.{ℕ, ◌+◌, ◌-◌, ◌*◌, ◌≤◌, ◌<◌}
+use mathlib.Core.Path.{refl, ◌∙◌}
+use Prim.Native.Nat.{◌+◌, ◌*◌, ◌<◌}
 use native.Mathlib.Omega.{arith}
-use lib.ListN.{length, get_or, length-set}
+use lib.ListN.{length, length-set}
 use lib.Seq.{get_or-set_other}
 use Rattle.algebra.proofs.Copying.{written_at}
 use Rattle.sifting.specs.Tables.{Joined}
-use borrow.Author.Rules.{rules}
 use Rattle.sifting.proofs.candidates.put_row.Goals as goal
 
 pub loop-w-init : goal.loop-w-init

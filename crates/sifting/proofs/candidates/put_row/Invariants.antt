@@ -1,12 +1,8 @@
 -- `sifting::candidates::put_row` meets its contract: the words before w are written, and those of the boxes before stay. Assumes nothing.
-use mathlib.Core.Path.{◌≡◌, refl, ◌∙◌}
+use mathlib.Core.Path.{◌≡◌}
 use Prim.Native.Nat.{ℕ, ◌+◌, ◌-◌, ◌*◌, ◌≤◌, ◌<◌}
-use native.Mathlib.Omega.{arith}
-use lib.ListN.{length, get_or, length-set}
-use lib.Seq.{get_or-set_other}
-use Rattle.algebra.proofs.Copying.{written_at}
+use lib.ListN.{length, get_or}
 use Rattle.sifting.specs.Tables.{Joined}
-use borrow.Author.Rules.{rules}
 use Rattle.sifting.proofs.candidates.put_row.Given as goal
 
 abbrev pub invariant-loop-w : goal.invariant-loop-w

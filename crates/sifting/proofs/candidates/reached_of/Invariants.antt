@@ -1,14 +1,6 @@
 -- `sifting::candidates::reached_of` meets its contract: the bits from t on are kept, and the one before them becomes the lowest. Assumes nothing.
-use mathlib.Core.Path.{◌≡◌}
-use mathlib.Core.Bool.{true, false}
-use Prim.Native.Nat.{suc, ◌+◌, ◌-◌, ◌<◌, ◌≤◌}
-use native.Mathlib.Omega.{arith}
-use Rattle.words.proofs.BitLaws.{one_more_small}
-use Rattle.boxes.specs.Boxes.{six}
-use Rattle.sifting.specs.Ends.{Reaches}
+use Prim.Native.Nat.{◌+◌, ◌-◌, ◌≤◌}
 use Rattle.sifting.specs.Tables.{Candidates}
-use Rattle.sifting.proofs.TableLaws.{one_more_bit, word_fits}
-use borrow.Author.Rules.{rules}
 use Rattle.sifting.proofs.candidates.reached_of.Given as goal
 
 abbrev pub invariant-loop-t : goal.invariant-loop-t

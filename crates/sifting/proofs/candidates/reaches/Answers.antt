@@ -5,7 +5,6 @@ use Prim.Native.Nat.{◌*◌}
 use Rattle.algebra.proofs.Parts.{part, length_lent}
 use Rattle.boxes.specs.Boxes.{boxes_apart, six}
 use Rattle.sifting.proofs.EndLaws.{reaching_boxes}
-use borrow.Author.Rules.{rules}
 use Rattle.sifting.proofs.candidates.reaches.Goals as goal
 
 pub boxes_apart-requires : goal.boxes_apart-requires

@@ -7,7 +7,6 @@ use Rattle.exact.proofs.Branches.{if_taken, if_left}
 use Rattle.boxes.proofs.BoxLaws.{read}
 use Rattle.sifting.specs.Ends.{mirror}
 use Rattle.sifting.proofs.EndLaws.{of_six}
-use borrow.Author.Rules.{rules}
 use Rattle.sifting.proofs.ends.end_at.Goals as goal
 
 pub returns-then-e-lt3 : goal.returns-then-e-lt3

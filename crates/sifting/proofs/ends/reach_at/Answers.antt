@@ -9,7 +9,6 @@ use Rattle.algebra.proofs.Machine.{returned}
 use Rattle.exact.proofs.Branches.{if_taken, if_left}
 use Rattle.boxes.proofs.BoxLaws.{read}
 use Rattle.sifting.specs.Ends.{mirror}
-use borrow.Author.Rules.{rules}
 use Rattle.sifting.proofs.ends.reach_at.Goals as goal
 
 pub returns-then-e-lt3 : goal.returns-then-e-lt3

@@ -1,9 +1,5 @@
 -- `sifting::marks::put_marks_of` meets its contract: the marks are as many as they were. Assumes nothing.
-use mathlib.Core.Path.{◌≡◌}
-use Prim.Native.Nat.{◌-◌, ◌≤◌}
 use native.Mathlib.Omega.{arith}
-use lib.ListN.{length}
-use borrow.Author.Rules.{rules}
 use Rattle.sifting.proofs.marks.put_marks_of.Goals as goal
 
 pub loop-s-init : goal.loop-s-init

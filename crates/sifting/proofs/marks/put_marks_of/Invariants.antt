@@ -1,9 +1,7 @@
 -- `sifting::marks::put_marks_of` meets its contract: the marks are as many as they were. Assumes nothing.
 use mathlib.Core.Path.{◌≡◌}
 use Prim.Native.Nat.{◌-◌, ◌≤◌}
-use native.Mathlib.Omega.{arith}
 use lib.ListN.{length}
-use borrow.Author.Rules.{rules}
 use Rattle.sifting.proofs.marks.put_marks_of.Given as goal
 
 abbrev pub invariant-loop-s : goal.invariant-loop-s

@@ -1,10 +1,8 @@
 -- `sifting::marks::put_samples` meets its contract: the samples are as many as they were. Assumes nothing.
-use mathlib.Core.Path.{◌≡◌, ◌∙◌}
-use Prim.Native.Nat.{◌-◌, ◌≤◌}
+use mathlib.Core.Path.{◌∙◌}
 use native.Mathlib.Omega.{arith}
-use lib.ListN.{length, length-set}
+use lib.ListN.{length-set}
 use native.Mathlib.Nat.{mul-le-mul_right}
-use borrow.Author.Rules.{rules}
 use Rattle.sifting.proofs.marks.put_samples.Goals as goal
 
 pub loop-k-init : goal.loop-k-init

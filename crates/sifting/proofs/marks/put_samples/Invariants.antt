@@ -1,10 +1,7 @@
 -- `sifting::marks::put_samples` meets its contract: the samples are as many as they were. Assumes nothing.
-use mathlib.Core.Path.{◌≡◌, ◌∙◌}
+use mathlib.Core.Path.{◌≡◌}
 use Prim.Native.Nat.{◌-◌, ◌≤◌}
-use native.Mathlib.Omega.{arith}
-use lib.ListN.{length, length-set}
-use native.Mathlib.Nat.{mul-le-mul_right}
-use borrow.Author.Rules.{rules}
+use lib.ListN.{length}
 use Rattle.sifting.proofs.marks.put_samples.Given as goal
 
 abbrev pub invariant-loop-k : goal.invariant-loop-k

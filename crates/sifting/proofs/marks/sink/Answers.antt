@@ -1,9 +1,7 @@
 -- `sifting::marks::sink` meets its contract: two numbers at a time trade places, and none is left out. Assumes nothing.
-use mathlib.Core.Path.{◌≡◌, refl}
-use Prim.Native.Nat.{◌≤◌, ◌<◌}
+use mathlib.Core.Path.{refl}
 use native.Mathlib.Omega.{arith}
-use lib.ListN.{length, length-set}
-use borrow.Author.Rules.{rules}
+use lib.ListN.{length-set}
 use Rattle.sifting.proofs.marks.sink.Goals as goal
 
 pub loop-k-init : goal.loop-k-init

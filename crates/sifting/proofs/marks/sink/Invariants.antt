@@ -1,9 +1,7 @@
 -- `sifting::marks::sink` meets its contract: two numbers at a time trade places, and none is left out. Assumes nothing.
-use mathlib.Core.Path.{◌≡◌, refl}
+use mathlib.Core.Path.{◌≡◌}
 use Prim.Native.Nat.{◌≤◌, ◌<◌}
-use native.Mathlib.Omega.{arith}
-use lib.ListN.{length, length-set}
-use borrow.Author.Rules.{rules}
+use lib.ListN.{length}
 use Rattle.sifting.proofs.marks.sink.Given as goal
 
 abbrev pub invariant-loop-k : goal.invariant-loop-k

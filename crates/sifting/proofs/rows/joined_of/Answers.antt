@@ -1,13 +1,9 @@
 -- `sifting::rows::joined_of` meets its contract: a bit that the last row and the rows before e have is set. Assumes nothing.
-use mathlib.Core.Path.{◌≡◌}
-use mathlib.Core.Bool.{true}
-use Prim.Native.Nat.{ℕ, ◌+◌, ◌-◌, ◌*◌, ◌≤◌, ◌<◌}
+use Prim.Native.Nat.{◌+◌, ◌*◌}
 use native.Mathlib.Omega.{arith}
 use lib.Bits.{and_le_l}
 use lib.ListN.{get_or}
-use Rattle.words.specs.Bits.{bit}
 use Rattle.sifting.proofs.TableLaws.{both_set}
-use borrow.Author.Rules.{rules}
 use Rattle.sifting.proofs.rows.joined_of.Goals as goal
 
 pub loop-e-init : goal.loop-e-init

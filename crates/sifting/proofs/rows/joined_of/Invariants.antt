@@ -2,12 +2,8 @@
 use mathlib.Core.Path.{◌≡◌}
 use mathlib.Core.Bool.{true}
 use Prim.Native.Nat.{ℕ, ◌+◌, ◌-◌, ◌*◌, ◌≤◌, ◌<◌}
-use native.Mathlib.Omega.{arith}
-use lib.Bits.{and_le_l}
 use lib.ListN.{get_or}
 use Rattle.words.specs.Bits.{bit}
-use Rattle.sifting.proofs.TableLaws.{both_set}
-use borrow.Author.Rules.{rules}
 use Rattle.sifting.proofs.rows.joined_of.Given as goal
 
 abbrev pub invariant-loop-e : goal.invariant-loop-e

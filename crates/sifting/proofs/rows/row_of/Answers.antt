@@ -8,7 +8,6 @@ use lib.ListN.{get_or}
 use lib.Signed.{lt_z, ◌<ℤ◌}
 use Rattle.algebra.proofs.Order.{lt_true}
 use Rattle.boxes.proofs.BoxLaws.{read_same}
-use borrow.Author.Rules.{rules}
 use Rattle.sifting.proofs.rows.row_of.Goals as goal
 
 pub returns-then-number-marks : goal.returns-then-number-marks

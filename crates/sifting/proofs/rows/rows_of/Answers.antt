@@ -1,15 +1,13 @@
 -- `sifting::rows::rows_of` meets its contract: a row is sought for each end. Assumes nothing.
-use mathlib.Core.Path.{◌≡◌, refl, subst, ◌∙◌}
-use Prim.Native.Nat.{ℕ, ◌-◌, ◌≤◌, ◌<◌}
+use mathlib.Core.Path.{refl, subst, ◌∙◌}
 use native.Mathlib.Omega.{arith}
 use lib.IntN.{ℤ}
-use lib.ListN.{length, get_or, length-set}
+use lib.ListN.{length-set}
 use mir.Syntax.{w32}
 use Rattle.algebra.proofs.Copying.{written_hold}
 use Rattle.algebra.proofs.Machine.{returned}
 use Rattle.sifting.specs.Ends.{reach_of}
 use Rattle.sifting.specs.Tables.{RowFor}
-use borrow.Author.Rules.{rules}
 use Rattle.sifting.proofs.rows.rows_of.Goals as goal
 
 pub loop-e-init : goal.loop-e-init

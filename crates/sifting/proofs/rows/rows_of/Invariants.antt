@@ -1,15 +1,9 @@
 -- `sifting::rows::rows_of` meets its contract: a row is sought for each end. Assumes nothing.
-use mathlib.Core.Path.{◌≡◌, refl, subst, ◌∙◌}
+use mathlib.Core.Path.{◌≡◌}
 use Prim.Native.Nat.{ℕ, ◌-◌, ◌≤◌, ◌<◌}
-use native.Mathlib.Omega.{arith}
-use lib.IntN.{ℤ}
-use lib.ListN.{length, get_or, length-set}
-use mir.Syntax.{w32}
-use Rattle.algebra.proofs.Copying.{written_hold}
-use Rattle.algebra.proofs.Machine.{returned}
+use lib.ListN.{length, get_or}
 use Rattle.sifting.specs.Ends.{reach_of}
 use Rattle.sifting.specs.Tables.{RowFor}
-use borrow.Author.Rules.{rules}
 use Rattle.sifting.proofs.rows.rows_of.Given as goal
 
 abbrev pub invariant-loop-e : goal.invariant-loop-e

@@ -4,7 +4,6 @@ use Prim.Native.Nat.{ℕ, suc, ◌*◌, ◌-◌, ◌^◌, ◌%◌, ◌<◌, ◌�
 use native.Mathlib.Omega.{arith}
 use native.Mathlib.Nat.{pow-le-pow_right}
 use lib.Pow.{pow_pos}
-use borrow.Author.Rules.{rules}
 use Rattle.sifting.proofs.tables.all_of.Goals as goal
 
 -- one bit, shifted within 64

@@ -1,13 +1,11 @@
 -- `sifting::tables::put_last_row` meets its contract: the words before w are written, and the rows before stay. Assumes nothing.
 use mathlib.Core.Path.{◌≡◌, refl, ap, ◌∙◌}
-use Prim.Native.Nat.{ℕ, ◌+◌, ◌-◌, ◌*◌, ◌^◌, ◌≤◌, ◌<◌}
+use Prim.Native.Nat.{ℕ, ◌+◌, ◌-◌, ◌*◌, ◌^◌, ◌<◌}
 use native.Mathlib.Omega.{arith}
-use lib.ListN.{length, get_or, length-set}
+use lib.ListN.{length, length-set}
 use lib.Seq.{get_or-set_other}
 use Rattle.algebra.proofs.Copying.{written_at}
 use Rattle.words.specs.Spans.{span}
-use Rattle.sifting.specs.Tables.{AllSet}
-use borrow.Author.Rules.{rules}
 use Rattle.sifting.proofs.tables.put_last_row.Goals as goal
 
 pub loop-w-init : goal.loop-w-init

@@ -1,6 +1,6 @@
 -- `sifting::tables::put_rows` meets its contract: the words before k are written, and the next leaves them. Assumes nothing.
-use mathlib.Core.Path.{◌≡◌, subst, ◌∙◌}
-use Prim.Native.Nat.{ℕ, ◌-◌, ◌/◌, ◌≤◌, ◌<◌}
+use mathlib.Core.Path.{subst, ◌∙◌}
+use Prim.Native.Nat.{ℕ, ◌/◌, ◌<◌}
 use native.Mathlib.Omega.{arith}
 use lib.IntN.{ℤ, pos}
 use lib.ListN.{length, get_or, length-set}
@@ -9,8 +9,7 @@ use mir.Val.{to_z, of_z}
 use Rattle.algebra.proofs.Copying.{written_hold}
 use Rattle.words.specs.Spans.{first_of, span}
 use Rattle.boxes.proofs.BoxLaws.{read}
-use Rattle.sifting.specs.Tables.{Sifts, SiftsAt}
-use borrow.Author.Rules.{rules}
+use Rattle.sifting.specs.Tables.{Sifts}
 use Rattle.sifting.proofs.tables.put_rows.Goals as goal
 
 pub loop-k-init : goal.loop-k-init

@@ -1,5 +1,4 @@
 -- `sifting::tables::put_table` meets its contract: the marks, their rows, and then the last, which leaves them. Assumes nothing.
-use borrow.Author.Rules.{rules}
 use Rattle.sifting.proofs.tables.put_table.Goals as goal
 
 pub returns : goal.returns

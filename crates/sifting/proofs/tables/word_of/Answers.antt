@@ -1,7 +1,7 @@
 -- `sifting::tables::word_of` meets its contract: the bits from t on are kept, and the one before them becomes the lowest. Assumes nothing.
 use mathlib.Core.Path.{◌≡◌, ◌∙◌, ap}
 use mathlib.Core.Bool.{Bool, true, false}
-use Prim.Native.Nat.{suc, ◌+◌, ◌-◌, ◌^◌, ◌<◌, ◌≤◌}
+use Prim.Native.Nat.{suc, ◌+◌, ◌-◌, ◌<◌}
 use native.Mathlib.Omega.{arith}
 use lib.IntN.{ℤ}
 use lib.Signed.{lt_z, ◌<ℤ◌}
@@ -15,7 +15,6 @@ use Rattle.boxes.proofs.BoxLaws.{read}
 use Rattle.sifting.specs.Ends.{end_of}
 use Rattle.sifting.specs.Tables.{Sifts}
 use Rattle.sifting.proofs.TableLaws.{one_more_bit, word_fits}
-use borrow.Author.Rules.{rules}
 use Rattle.sifting.proofs.tables.word_of.Goals as goal
 
 -- the test that the code makes of an end and the mark
