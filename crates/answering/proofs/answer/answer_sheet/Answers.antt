@@ -2,7 +2,6 @@
 use native.Mathlib.Omega.{arith}
 use Rattle.answering.proofs.SheetLaws.{answers}
 use Rattle.answering.specs.Sheets.{long, read}
-use borrow.Author.Rules.{rules}
 use Rattle.answering.proofs.answer.answer_sheet.Goals as goal
 
 pub returns-then-sheet-gt-LONGEST : goal.returns-then-sheet-gt-LONGEST

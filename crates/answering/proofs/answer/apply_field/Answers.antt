@@ -1,18 +1,14 @@
 -- `answering::answer::apply_field` meets its contract: the line has the number of the outcome and the true count. Assumes nothing.
-use mathlib.Core.Path.{◌≡◌, sym, ap, ◌∙◌, subst}
-use mathlib.Core.List.{List, ◌∷◌}
+use mathlib.Core.Path.{sym, ap, ◌∙◌, subst}
+use mathlib.Core.List.{◌∷◌}
 use Prim.Native.Nat.{ℕ, ◌+◌, ◌<◌}
 use lib.ListN.{length}
-use Rattle.checks.specs.Answers.{number_of}
-use Rattle.checks.specs.Told.{told_check}
-use Rattle.plate.specs.Histories.{Call, outcome, run}
-use Rattle.plate.specs.Plates.{Stands}
+use Rattle.plate.specs.Histories.{run}
 use Rattle.asking.specs.Calls.{call_of}
 use Rattle.lines.specs.Laid.{laid}
 use Rattle.lines.specs.Lines.{line_of}
 use Rattle.answering.proofs.Small.{small_count, small_number}
 use Rattle.answering.proofs.SheetLaws.{call_told}
-use borrow.Author.Rules.{rules}
 use Rattle.answering.proofs.answer.apply_field.Goals as goal
 
 pub put_line-next-requires : goal.put_line-next-requires

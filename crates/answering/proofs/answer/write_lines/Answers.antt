@@ -1,10 +1,10 @@
 -- `answering::answer::write_lines` meets its contract: the lines so far are right, whatever lines follow them. Assumes nothing.
 use mathlib.Core.Path.{◌≡◌, sym, ap, ◌∙◌, subst}
 use mathlib.Core.List.{List}
-use Prim.Native.Nat.{ℕ, ◌+◌, ◌-◌, ◌≤◌, ◌<◌}
+use Prim.Native.Nat.{ℕ, ◌+◌, ◌≤◌, ◌<◌}
 use borrow.Author.Rules.{rules}
 use native.Mathlib.Omega.{arith}
-use lib.ListN.{length, length-drop, take, drop}
+use lib.ListN.{length, length-drop, drop}
 use Rattle.algebra.proofs.Parts.{length_lent}
 use Rattle.checks.specs.Answers.{number_of}
 use Rattle.plate.specs.Histories.{Call, outcome, run}
@@ -187,9 +187,9 @@ put_line-end-requires c =
     let told : (before : List Call) → Stands (run before) l.plate →
     c.number_of-number.result ≡ number_of (outcome (run before) (call_of tag (body_of size (drop l.at sheet)))) =
     λ before st.
-        c.number_of-number.ensures
-        ∙ c.field_checked-told.ensures (run before) (shown before st).slots st.reach
-        ∙ ap (λ (body : List ℕ). number_of (outcome (run before) (call_of tag body))) (body_at l.at size sheet) in
+    c.number_of-number.ensures
+    ∙ c.field_checked-told.ensures (run before) (shown before st).slots st.reach
+    ∙ ap (λ (body : List ℕ). number_of (outcome (run before) (call_of tag body))) (body_at l.at size sheet) in
     -- There is room for a line.
     let free : l.end + 8 ≤ length l.out = room_for_line l.invariant c.loop-at-test.true c.requires.0 c.requires.1 in
     let inv = l.invariant in
@@ -256,9 +256,9 @@ loop-at-preserved c =
     let told : (before : List Call) → Stands (run before) l.plate →
     c.number_of-number.result ≡ number_of (outcome (run before) (call_of tag (body_of size (drop l.at sheet)))) =
     λ before st.
-        c.number_of-number.ensures
-        ∙ c.field_checked-told.ensures (run before) (shown before st).slots st.reach
-        ∙ ap (λ (body : List ℕ). number_of (outcome (run before) (call_of tag body))) (body_at l.at size sheet) in
+    c.number_of-number.ensures
+    ∙ c.field_checked-told.ensures (run before) (shown before st).slots st.reach
+    ∙ ap (λ (body : List ℕ). number_of (outcome (run before) (call_of tag body))) (body_at l.at size sheet) in
     -- There is room for a line.
     let free : l.end + 8 ≤ length l.out = room_for_line l.invariant c.loop-at-test.true c.requires.0 c.requires.1 in
     one_more l.invariant tag size whole

@@ -7,7 +7,6 @@ use Rattle.plate.specs.Histories.{Call, change}
 use Rattle.plate.specs.Plates.{Promise}
 use Rattle.fields.proofs.FieldLaws.{place_size, lift_size, shift_size}
 use Rattle.asking.proofs.CallLaws.{place_call, lift_call, shift_call, undo_call}
-use borrow.Author.Rules.{rules}
 use Rattle.asking.proofs.applying.apply.Goals as goal
 
 pub apply_place-requires : goal.apply_place-requires

@@ -3,7 +3,6 @@ use mathlib.Core.Path.{subst}
 use Rattle.slots.specs.Changes.{place}
 use Rattle.plate.specs.Histories.{Call, change}
 use Rattle.plate.specs.Plates.{Promise}
-use borrow.Author.Rules.{rules}
 use Rattle.asking.proofs.applying.apply_place.Goals as goal
 
 pub returns : goal.returns

@@ -8,7 +8,6 @@ use Rattle.reasons.specs.Rules.{change_checks}
 use Rattle.plate.specs.Histories.{Call, slots_of, outcome}
 use Rattle.fields.proofs.FieldLaws.{place_size, lift_size, shift_size}
 use Rattle.asking.proofs.CallLaws.{place_call, lift_call, shift_call, undo_call, change_number, undo_number}
-use borrow.Author.Rules.{rules}
 use Rattle.asking.proofs.checking.field_checked.Goals as goal
 
 pub place_checked-requires : goal.place_checked-requires

@@ -2,7 +2,6 @@
 use mathlib.Core.Path.{◌∙◌}
 use Rattle.slots.specs.Changes.{place}
 use Rattle.reasons.specs.Rules.{change_checks}
-use borrow.Author.Rules.{rules}
 use Rattle.asking.proofs.checking.place_checked.Goals as goal
 
 pub returns : goal.returns

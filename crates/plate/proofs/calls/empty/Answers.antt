@@ -1,6 +1,5 @@
 -- `plate::calls::empty` meets its contract: its slots are all empty, so none clash, and its journal is blank. Assumes nothing.
 use mathlib.Core.Path.{refl, sym, ◌∙◌}
-use borrow.Author.Rules.{rules}
 use lib.ListN.{replicate}
 use Rattle.slots.specs.Changes.{replay}
 use Rattle.slots.specs.Arrays.{flat}

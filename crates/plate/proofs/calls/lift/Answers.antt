@@ -1,7 +1,6 @@
 -- `plate::calls::lift` meets its contract: where the checks find a reason the plate stays, and else the slot is emptied. Assumes nothing.
-use mathlib.Core.Path.{◌≡◌, refl, sym, ap, ◌∙◌}
+use mathlib.Core.Path.{refl, sym, ap, ◌∙◌}
 use native.Mathlib.Omega.{arith}
-use Rattle.checks.specs.Answers.{fine}
 use Rattle.checks.specs.Told.{told_check}
 use Rattle.slots.specs.Slots.{free}
 use Rattle.slots.specs.Changes.{apply}

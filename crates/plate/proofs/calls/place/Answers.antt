@@ -1,14 +1,12 @@
 -- `plate::calls::place` meets its contract: where the checks find a reason the plate stays, and else the slot is filled. Assumes nothing.
-use mathlib.Core.Path.{◌≡◌, refl, sym, ap, ◌∙◌}
+use mathlib.Core.Path.{refl, sym, ap, ◌∙◌}
 use native.Mathlib.Numerals.{add-one}
 use native.Mathlib.Omega.{arith}
-use Rattle.checks.specs.Answers.{fine}
 use Rattle.checks.specs.Told.{told_check}
 use Rattle.slots.specs.Slots.{held}
 use Rattle.slots.specs.Changes.{apply}
 use Rattle.plate.specs.Histories.{run}
 use Rattle.plate.proofs.Outcomes.{shown, change_refused, change_made}
-use borrow.Author.Rules.{rules}
 use Rattle.plate.proofs.calls.place.Goals as goal
 
 pub overflow_add-part : goal.overflow_add-part

@@ -8,16 +8,13 @@ use lib.IntN.{ℤ}
 use mir.Syntax.{w32}
 use mir.Val.{to_z, of_z}
 use mir.Facts.{to_z-of_z}
-use Rattle.checks.specs.Answers.{fine}
 use Rattle.checks.specs.Told.{told_check}
 use Rattle.slots.specs.Changes.{shift, thrice, apply}
 use Rattle.keeping.specs.Steps.{Slid}
 use Rattle.reasons.specs.Rules.{change_checks}
-use Rattle.plate.specs.Histories.{slots_of, Call, run}
-use Rattle.plate.specs.Plates.{Stands}
+use Rattle.plate.specs.Histories.{slots_of, run}
 use Rattle.plate.proofs.Fits.{change_fits}
 use Rattle.plate.proofs.Outcomes.{shown, change_refused, change_made}
-use borrow.Author.Rules.{rules}
 use Rattle.plate.proofs.calls.shift.Goals as goal
 
 pub overflow_add-part : goal.overflow_add-part

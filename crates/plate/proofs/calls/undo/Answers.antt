@@ -1,15 +1,14 @@
 -- `plate::calls::undo` meets its contract: where the check finds a reason the plate stays, and else the latest change is taken back. Assumes nothing.
-use mathlib.Core.Path.{◌≡◌, refl, sym, ap, ◌∙◌}
+use mathlib.Core.Path.{refl, sym, ap, ◌∙◌}
 use native.Mathlib.Omega.{arith}
 use Rattle.checks.specs.Told.{told_check}
 use Rattle.plate.specs.Histories.{run}
 use Rattle.reasons.specs.Findings.{undo_found}
 use Rattle.plate.proofs.Outcomes.{refusal, undo_outcome, undo_ahead, undo_made}
-use borrow.Author.Rules.{rules}
 use Rattle.plate.proofs.calls.undo.Goals as goal
 
 pub overflow_sub-before : goal.overflow_sub-before
-overflow_sub-before c = 
+overflow_sub-before c =
     -- There is a change to take back.
     let some = undo_ahead _ (sym c.undo_checked.ensures ∙ ap told_check c.in-Fine.is) in
     omega (arith, some)

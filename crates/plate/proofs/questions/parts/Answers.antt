@@ -1,6 +1,5 @@
 -- `plate::questions::parts` meets its contract: each way out tells what the checks of the two parts find there. Assumes nothing.
 use mathlib.Core.Path.{sym, ◌∙◌}
-use borrow.Author.Rules.{rules}
 use Rattle.plate.proofs.PartsLaws.{parts_7_first, parts_7_second, parts_10_first, parts_10_second, parts_told}
 use Rattle.plate.proofs.questions.parts.Goals as goal
 

@@ -4,7 +4,6 @@ use native.Mathlib.Numerals.{add-one}
 use Rattle.slots.specs.Counting.{marks_strike}
 use Rattle.slots.proofs.Grids.{never_off}
 use Rattle.exact.proofs.Branches.{if_taken, if_left, if_equal, if_different}
-use borrow.Author.Rules.{rules}
 use Rattle.plate.proofs.questions.present_verdict.Goals as goal
 
 pub returns-then-p-q : goal.returns-then-p-q

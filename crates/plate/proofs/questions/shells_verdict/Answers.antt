@@ -3,7 +3,6 @@ use mathlib.Core.Path.{sym, ◌∙◌}
 use native.Mathlib.Numerals.{add-one}
 use Rattle.slots.proofs.Grids.{zeros_ready}
 use Rattle.plate.proofs.PartsLaws.{first_open, second_open, first_in, second_in}
-use borrow.Author.Rules.{rules}
 use Rattle.plate.proofs.questions.shells_verdict.Goals as goal
 
 pub gather_part-m-requires : goal.gather_part-m-requires
