@@ -18,6 +18,7 @@ use Rattle.shape.proofs.FlatLaws.{below_says}
 use Rattle.shape.proofs.VerdictLaws.{says_itself}
 use Rattle.exact.specs.Grid.{limit}
 use Rattle.checks.specs.Grid.{on_grid, lowest_off, all_on}
+pub use Rattle.checks.proofs.LowestLaw.{lowest_is}
 
 -- ---- one number, against a limit m + 1
 pub below_limit : (m : ℕ) (z : ℤ) → lt_z z (negsuc m) ≡ true → true ≡ not (leb (nat_abs z) (suc m))
@@ -44,15 +45,6 @@ module _ (z : ℤ) (fits : mag z < 2 ^ hbits w32) (t : Bool) (e : t ≡ not (on_
   tested_on h = same ∙ not-false (on_grid (to_z w32 (of_z w32 z))) (sym e ∙ h)
 
 -- ---- the lowest position off the grid
--- Nothing before i is off the grid, and i is, unless it is the end.
-pub lowest_is : (l : List ℤ) (i : ℕ) → i ≤ length l → ((k : ℕ) → k < i → on_grid (get_or l k (pos 0)) ≡ true) →
-    (i < length l → on_grid (get_or l i (pos 0)) ≡ false) → i ≡ lowest_off l
-lowest_is [] i h on off = omega arith
-lowest_is (z ∷ l) zero h on off = ap (λ (t : Bool). cond t (suc (lowest_off l)) 0) (sym (off (omega arith)))
-lowest_is (z ∷ l) (suc i) h on off =
-    ap suc (lowest_is l i (omega arith) (λ k p. on (suc k) (omega arith)) (λ p. off (omega arith)))
-    ∙ ap (λ (t : Bool). cond t (suc (lowest_off l)) 0) (sym (on 0 (omega arith)))
-
 -- Where there is none, every number is on the grid; past the end stands 0, which is too.
 pub all_on_law : (l : List ℤ) → length l ≤ lowest_off l → (k : ℕ) → nat_abs (get_or l k (pos 0)) ≤ limit
 all_on_law [] h k = omega arith

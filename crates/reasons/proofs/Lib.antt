@@ -1,6 +1,8 @@
 -- What the proofs of several functions share, here and in crate `plate`:
+--   PlaceOrder    the order of the checks of a place
 --   Placing       the checks of a place, and what they leave to be taken for granted
 --   Orders        which reason comes first, of each change
 -- Assumes nothing.
+pub mod PlaceOrder
 pub mod Placing
 pub mod Orders

@@ -9,14 +9,15 @@ use lib.Dec.{ltb}
 use lib.IntN.{ℤ}
 use lib.ListN.{length}
 use Rattle.exact.specs.Grid.{Ready}
-use Rattle.checks.specs.Answers.{refused, Check, fine, ◌then◌}
+use Rattle.checks.specs.Answers.{refused, fine, ◌then◌}
 use Rattle.checks.specs.Rules.{right_length, refuses_flat, shape_checks}
-use Rattle.checks.proofs.AnswerLaws.{never_fine, then_assoc, then_fine}
+use Rattle.checks.proofs.AnswerLaws.{never_fine, then_fine}
 use Rattle.checks.proofs.CheckLaws.{fine_long}
 use Rattle.checks.proofs.Passing.{passed}
 use Rattle.slots.specs.Slots.{Slot}
 use Rattle.slots.specs.Changes.{place}
 use Rattle.reasons.specs.Rules.{slot_within, part_within, slot_free, change_checks}
+pub use Rattle.reasons.proofs.PlaceOrder.{placing, place_order}
 
 -- A check that refuses a number above n refuses nothing: the number is not above n.
 pub not_above : (m n number side at : ℕ) → cond (ltb n m) (refused number side at) fine ≡ fine → m ≤ n
@@ -25,20 +26,6 @@ not_above m n number side at e = by_test (ltb n m) refl
     by_test : (t : Bool) → ltb n m ≡ t → m ≤ n
     by_test true f = absurd (never_fine e (ap (λ (t : Bool). cond t (refused number side at) fine) f))
     by_test false f = ltb-false n m f
-
--- The checks that look at no slot: 6, 7, 3, 1 and 2.
-abbrev pub placing : (s q : ℕ) → List ℤ → Check
-placing s q l = slot_within s then part_within 0 q then right_length 0 9 l then shape_checks refuses_flat 3 3 0 l
-
--- They come first, and then 8.
-pub place_order : (S : List Slot) (s q : ℕ) (l : List ℤ) → change_checks S (place s q l) ≡ (placing s q l then slot_free S s)
-unfolding change_checks
-place_order S s q l =
-    let shape = shape_checks refuses_flat 3 3 0 l in
-    sym
-    (then_assoc (slot_within s) (part_within 0 q then right_length 0 9 l then shape) (slot_free S s)
-    ∙ ap (λ (c : Check). slot_within s then c) (then_assoc (part_within 0 q) (right_length 0 9 l then shape) (slot_free S s))
-    ∙ ap (λ (c : Check). slot_within s then part_within 0 q then c) (then_assoc (right_length 0 9 l) shape (slot_free S s)))
 
 -- A place that is accepted passes both.
 pub place_passes : (S : List Slot) (s q : ℕ) (l : List ℤ) → change_checks S (place s q l) ≡ fine →
