@@ -6,7 +6,7 @@ use mathlib.Core.Logic.{◌⊎◌, inl, inr}
 use Prim.Native.Nat.{ℕ, ◌<◌, ◌≤◌}
 use native.Mathlib.Omega.{arith}
 use borrow.Author.Tests.{eqb-true, eqb-false, ltb-true, ltb-false}
-use lib.Dec.{eqb, ltb}
+use lib.Dec.{ltb}
 use lib.Ieee.{Float}
 use lib.IntN.{ℤ}
 use lib.ListN.{get_or}
@@ -52,6 +52,10 @@ either_false : (a b : Bool) → a || b ≡ false → (a ≡ false) × (b ≡ fal
 either_false true b e = both refl e
 either_false false b e = (refl, e)
 
+either_true : (a b : Bool) → a || b ≡ true → (a ≡ true) ⊎ (b ≡ true)
+either_true true b e = inl refl
+either_true false b e = inr e
+
 not_alone : (s : ℕ) → s < 16 → ltb 1 s && ltb s 16 ≡ false → s ≤ 1
 not_alone s few e = by_test (ltb 1 s) refl
   where
@@ -78,8 +82,9 @@ module _ {t u : List ℤ} {start step base stride : ℕ} {standings : List ℕ} 
   pub sorted_seeming : SeemsAt t u start step base stride z (get_or standings z 0) → is_open (get_or standings z 0) ≡ false → kept ≡ seems_alone (get_or standings z 0) → other ≡ false →
       SortedAt t u start step base stride standings z kept other
   sorted_seeming at told k o =
-      let not_open = either_false (eqb (get_or standings z 0) 1) (ltb 15 (get_or standings z 0)) told in
-      let few : get_or standings z 0 < 16 = omega (arith, ltb-false 15 (get_or standings z 0) not_open.1) in
+      let not_open = either_false _ _ told in
+      let told_few = ltb-false _ (get_or standings z 0) not_open.1 in
+      let few : get_or standings z 0 < 16 = omega (arith, told_few) in
       record {
         alone = λ set. at.seems few;
         near = λ set. ltb-true 1 (get_or standings z 0) (both_true (ltb 1 (get_or standings z 0)) (ltb (get_or standings z 0) 16) (sym k ∙ set)).0;
@@ -129,12 +134,7 @@ module _ {t u : List ℤ} {start step base stride asked close seen seemed : ℕ}
           absurd (no (get_or between z 0) (ltb-true 1 (get_or between z 0) alone.0) (ltb-true (get_or between z 0) 16 alone.1) far)
         where
           no : (s : ℕ) → 1 < s → s < 16 → is_open s ≡ true → ⊥
-          no s more few far = by_test (eqb s 1) (ltb 15 s) refl refl far
-            where
-              by_test : (a b : Bool) → eqb s 1 ≡ a → ltb 15 s ≡ b → a || b ≡ true → ⊥
-              by_test true b e f g = omega (arith, eqb-true s 1 e)
-              by_test false true e f g = omega (arith, ltb-true 15 s f)
-              by_test false false e f g = both g refl
+          no s more few far = elim (either_true _ _ far) [ inl e ↦ omega (arith, eqb-true s 1 e) | inr f ↦ omega (arith, ltb-true _ s f) ]
 
   -- So it can be asked exactly.
   pub open_posed : {narrow : Bool} {normals : List ℤ} {planes : List Float} → Posed narrow t u start step base stride normals planes asked close → narrow ≡ false →
