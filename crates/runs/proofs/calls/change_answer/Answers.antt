@@ -1,5 +1,4 @@
 -- `runs::calls::change_answer` meets its contract: what the call told is told on. Assumes nothing.
-use borrow.Author.Rules.{rules}
 use Rattle.runs.proofs.PlateLaws.{change_kept}
 use Rattle.runs.proofs.calls.change_answer.Goals as goal
 

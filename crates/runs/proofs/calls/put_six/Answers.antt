@@ -1,8 +1,5 @@
 -- `runs::calls::put_six` meets its contract: the six numbers are stored one by one. Assumes nothing.
 use mathlib.Core.List.{[], ◌∷◌}
-use native.Mathlib.Omega.{arith}
-use borrow.Author.Rules.{rules}
-use lib.ListN.{length-set}
 use Rattle.exact.proofs.Readings.{all_stored}
 use Rattle.runs.proofs.calls.put_six.Goals as goal
 

@@ -1,8 +1,5 @@
 -- `runs::calls::three_at` meets its contract: the three numbers are read one by one. Assumes nothing.
 use mathlib.Core.Path.{refl}
-use Prim.Native.Nat.{◌+◌, ◌*◌}
-use native.Mathlib.Omega.{arith}
-use borrow.Author.Rules.{rules}
 use Rattle.runs.proofs.calls.three_at.Goals as goal
 
 pub returns : goal.returns

@@ -1,7 +1,6 @@
 -- `telling::answers::change_numbers` meets its contract: a refusal has the numbers of a refusal, and a change those of what is served, without a
 -- value. Assumes nothing.
 use mathlib.Core.Path.{◌≡◌, sym, ap, ◌∙◌}
-use borrow.Author.Rules.{rules}
 use Rattle.checks.specs.Told.{told_check}
 use Rattle.checks.specs.declared.grid.Checked.{Checked}
 use Rattle.telling.specs.Numbers.{without_value, four_numbers}

@@ -1,6 +1,5 @@
 -- `telling::answers::list_numbers` meets its contract: a refusal has the numbers of a refusal, and a listing those of its count. Assumes nothing.
 use mathlib.Core.Path.{sym, ap, ◌∙◌}
-use borrow.Author.Rules.{rules}
 use Rattle.listing.specs.Told.{told_list}
 use Rattle.listing.specs.declared.answer.ListAnswer.{ListAnswer}
 use Rattle.telling.specs.Numbers.{four_numbers}

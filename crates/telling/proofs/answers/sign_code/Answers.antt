@@ -1,6 +1,5 @@
 -- `telling::answers::sign_code` meets its contract: each sign has the number that the rule gives it.
 -- Assumes nothing.
-use borrow.Author.Rules.{rules}
 use mathlib.Core.Path.{◌≡◌, sym, ap}
 use Rattle.exact.specs.SignNumbers.{sign_number}
 use Rattle.exact.specs.declared.determinant.Sign.{Sign}

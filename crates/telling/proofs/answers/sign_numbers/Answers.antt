@@ -1,6 +1,5 @@
 -- `telling::answers::sign_numbers` meets its contract: a refusal has the numbers of a refusal, and a sign those of what is served, by its code.
 -- Assumes nothing.
-use borrow.Author.Rules.{rules}
 use mathlib.Core.Path.{sym, ap, ◌∙◌}
 use Prim.Native.Nat.{ℕ}
 use Rattle.checks.specs.Answers.{served, with_served}

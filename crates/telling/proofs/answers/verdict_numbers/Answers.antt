@@ -1,6 +1,5 @@
 -- `telling::answers::verdict_numbers` meets its contract: a refusal has the numbers of a refusal, and a verdict those of what is served, by
 -- its code. Assumes nothing.
-use borrow.Author.Rules.{rules}
 use mathlib.Core.Path.{◌≡◌, sym, ap, ◌∙◌}
 use Rattle.checks.specs.Answers.{with_served}
 use Rattle.predicate.specs.Told.{told_verdict}

@@ -1,6 +1,5 @@
 -- `telling::numbers::put` meets its contract: a buffer with room for fewer than four numbers stays, and four stores fill the front of any other.
 -- Assumes nothing.
-use borrow.Author.Rules.{rules}
 use native.Mathlib.Omega.{arith}
 use lib.ListN.{length-set}
 use Rattle.telling.specs.Numbers.{listed}
