@@ -163,12 +163,11 @@ pub in_places : (s r : ℕ) → Numbered s → Numbered r → {C X : Type 0} (co
     f (corner (first_place s)) (corner (second_place s r)) (corner (third_place s r)) ≡ placed (turns_in s) (swap_in r) f (corner 0) (corner 3) (corner 6)
 in_places s r hs hr corner f = by_swap (swap_in r) refl
   where
-    At : (turns bit : ℕ) → Bool → Type 0
-    At turns bit swap =
-        f (corner (3 * turns)) (corner (3 * ((turns + 1 + bit) % 3))) (corner (3 * ((turns + 2 + 2 * bit) % 3)))
-        ≡ placed turns swap f (corner 0) (corner 3) (corner 6)
+    At : (s r turns : ℕ) → Bool → Type 0
+    At s r turns swap =
+        f (corner (first_place s)) (corner (second_place s r)) (corner (third_place s r)) ≡ placed turns swap f (corner 0) (corner 3) (corner 6)
 
-    each : (turns : ℕ) (swap : Bool) → turns ≤ 2 → At turns (bool_byte swap) swap
+    each : (turns : ℕ) (swap : Bool) → turns ≤ 2 → At turns (8 * bool_byte swap) turns swap
     each zero false h = refl
     each zero true h = refl
     each (suc zero) false h = refl
@@ -177,9 +176,17 @@ in_places s r hs hr corner f = by_swap (swap_in r) refl
     each (suc (suc zero)) true h = refl
     each (suc (suc (suc turns))) swap h = absurd (omega arith)
 
-    by_swap : (swap : Bool) → swap_in r ≡ swap → At (turns_in s) (r / 8) swap
-    by_swap false e = subst (λ (bit : ℕ). At (turns_in s) bit false) (omega (arith, ltb-false 7 r e)) (each (turns_in s) false hs.few)
-    by_swap true e = subst (λ (bit : ℕ). At (turns_in s) bit true) (omega (arith, ltb-true 7 r e, hr.small)) (each (turns_in s) true hs.few)
+    -- Where the corners stand depends on no more of s and r than that.
+    at : (r' : ℕ) (swap : Bool) → r' / 8 ≡ r / 8 → At (turns_in s) r' (turns_in s) swap → At s r (turns_in s) swap
+    at r' swap e h =
+        let first : first_place (turns_in s) ≡ first_place s = omega arith in
+        let second : second_place (turns_in s) r' ≡ second_place s r = omega arith in
+        let third : third_place (turns_in s) r' ≡ third_place s r = omega arith in
+        sym (λ i. f (corner (first i)) (corner (second i)) (corner (third i))) ∙ h
+
+    by_swap : (swap : Bool) → swap_in r ≡ swap → At s r (turns_in s) swap
+    by_swap false e = at 0 false (omega (arith, ltb-false 7 r e)) (each (turns_in s) false hs.few)
+    by_swap true e = at 8 true (omega (arith, ltb-true 7 r e, hr.small)) (each (turns_in s) true hs.few)
 
 -- A triangle that was read in that order.
 module _ (s r : ℕ) (l : List ℤ) {t : SpaceTriangle} (at : InOrder s r l t) where
