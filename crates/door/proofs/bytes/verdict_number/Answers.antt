@@ -1,6 +1,5 @@
 -- `door::bytes::verdict_number` meets its contract: the grid is looked at, and then the test decides. Assumes nothing.
-use borrow.Author.Rules.{rules}
-use mathlib.Core.Path.{◌≡◌, sym, ◌∙◌, subst}
+use mathlib.Core.Path.{sym, ◌∙◌, subst}
 use mathlib.Core.Bool.{Bool}
 use Rattle.telling.specs.Numbers.{verdict_code}
 use Rattle.door.specs.Doors.{VerdictTold}
@@ -11,9 +10,9 @@ use Rattle.door.proofs.bytes.verdict_number.Goals.{then-not-all_on-via-then-not-
 pub returns-then-not-all_on : goal.returns-then-not-all_on
 returns-then-not-all_on c =
     elim c.then-not-all_on.branch [
-      then-not-all_on-via-then-not-all_on w ↦ first_off _ _ c.requires.0 c.requires.1 (sym c.all_on.ensures ∙ w.if-not-all_on.true)
-    | then-not-all_on-via-else-not-all_on+then-not-all_on-2 w ↦
-        second_off _ _ c.requires.0 c.requires.1 (sym c.all_on.ensures ∙ w.if-not-all_on.false) (sym w.all_on-else-not-all_on.ensures ∙ w.if-not-all_on-2.true)
+      | then-not-all_on-via-then-not-all_on w ↦ first_off _ _ c.requires.0 c.requires.1 (sym c.all_on.ensures ∙ w.if-not-all_on.true)
+      | then-not-all_on-via-else-not-all_on+then-not-all_on-2 w ↦
+          second_off _ _ c.requires.0 c.requires.1 (sym c.all_on.ensures ∙ w.if-not-all_on.false) (sym w.all_on-else-not-all_on.ensures ∙ w.if-not-all_on-2.true)
     ]
 
 pub triangles_meet-requires : goal.triangles_meet-requires

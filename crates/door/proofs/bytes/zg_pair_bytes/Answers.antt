@@ -1,13 +1,7 @@
 -- `door::bytes::zg_pair_bytes` meets its contract: it tells of the numbers that the bytes are, where the lengths are right.
 -- Assumes nothing.
-use borrow.Author.Rules.{rules}
-use mathlib.Core.Path.{◌≡◌, refl}
-use mathlib.Core.Bool.{true, false, not}
-use mathlib.Core.Logic.{⊎_elim}
-use Prim.Native.Nat.{ℕ}
+use mathlib.Core.Path.{refl}
 use native.Mathlib.Omega.{arith}
-use lib.Dec.{eqb}
-use lib.ListN.{length}
 use Rattle.door.specs.Doors.{wrong_length, judged}
 use Rattle.door.proofs.NineNumbers.{told_alike}
 use Rattle.door.proofs.bytes.zg_pair_bytes.Goals as goal

@@ -1,6 +1,5 @@
 -- `door::signs::zg_turn` meets its contract: it writes the numbers of what the sign call tells.
 -- Assumes nothing.
-use borrow.Author.Rules.{rules}
 use Rattle.shape.specs.Signs.{digit}
 use Rattle.telling.proofs.BufferLaws.{told_right}
 use Rattle.door.proofs.signs.zg_turn.Goals as goal

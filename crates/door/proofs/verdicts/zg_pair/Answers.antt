@@ -1,6 +1,5 @@
 -- `door::verdicts::zg_pair` meets its contract: it writes the numbers of what the pair call tells, which is the right answer.
 -- Assumes nothing.
-use borrow.Author.Rules.{rules}
 use mathlib.Core.Path.{refl}
 use Rattle.predicate.specs.Told.{told_verdict}
 use Rattle.telling.specs.Numbers.{verdict_code}
