@@ -11,5 +11,5 @@ returns-then-a-ne36 c = wrong_length (λ long. omega arith) refl
 
 pub returns : goal.returns
 returns c =
-    judged (omega (arith, c.if-a-ne36.false)) (omega (arith, c.if-b-ne36.false))
+    judged (omega arith) (omega arith)
     (told_alike c.numbers_at.ensures c.numbers_at-2.ensures c.verdict_number.ensures)
