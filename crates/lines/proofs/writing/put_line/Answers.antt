@@ -1,9 +1,7 @@
 -- `lines::writing::put_line` meets its contract: four texts, one after the other. Assumes nothing.
-use mathlib.Core.List.{[], ◌∷◌, ◌++◌}
 use Prim.Native.Nat.{ℕ, ◌≤◌}
 use native.Mathlib.Omega.{arith}
 use lib.ListN.{length, length-append}
-use Rattle.lines.specs.Lines.{decimal}
 use Rattle.lines.proofs.LineLaws.{Put, put_more, room_left, line_put, short_decimal, shorter_decimal}
 use Rattle.lines.proofs.writing.put_line.Goals as goal
 
