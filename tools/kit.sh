@@ -6,7 +6,8 @@ if ! command -v rt >/dev/null 2>&1; then
     echo "$0: rt is not on the PATH; it comes with the Rattle kit that this repository pins: $pinned" >&2
     exit 2
 fi
-found=$(rt version 2>/dev/null)
+# Not even a folder as standard input may stop it.
+found=$(rt version </dev/null 2>/dev/null)
 if [ "$found" != "$pinned" ]; then
     echo "$0: rt is of the Rattle kit '$found', and this repository pins '$pinned'" >&2
     [ "${found#* logic }" = "${pinned#* logic }" ] || exit 2
