@@ -1,7 +1,7 @@
 #!/usr/bin/env python3
 """Brings the repository's own definitions and lemmas to snake case: `turnedOnce` and `sized-turned` become `turned_once` and `sized_turned`.
 
-usage: python3 tools/respell.py      at the top of the repository, once, after the kit's own port.py
+usage: python3 tools/respell.py      at the top of the repository, after the kit's own port.py; a second run changes nothing
 
 It respells what specs/ and proofs/ of the crates declare (definitions, lemmas, fields, constructors of a table, and what stands
 in a `where`, a `let`, or between brackets as a parameter), wherever it is named: in the crates' .antt and .rt files, in the must-fail
@@ -60,10 +60,10 @@ TOGETHER = {
 # Fields among them: elsewhere a word behind a dot is a step of a proof, which has the name of a function.
 FIELDS = {"not-flat", "slot-within", "part-within"}
 
-# Laws whose spelling was right already, and is now that of the word that they are about.
+# Laws whose spelling was right already, and is now that of the word that they are about; in a file where that word is to be respelled.
 IN_FILE = {
-    "crates/fields/proofs/Table.antt": {"tag_fits": "tag_fits_law"},
-    "crates/listing/proofs/Unique.antt": {"answer_back": "answer_back_law"},
+    "crates/fields/proofs/Table.antt": ("tagFits", {"tag_fits": "tag_fits_law"}),
+    "crates/listing/proofs/Unique.antt": ("answerBack", {"answer_back": "answer_back_law"}),
 }
 
 WORD = re.compile(r"(?<![\w\-'′◌<≤≡*+])[^\W\d_][\w'′]*(?:-[\w'′]+)*(?![\w\-'′◌⁻<≤≡])")
@@ -122,6 +122,11 @@ def from_a_library(text, own):
     return taken
 
 
+def renamed_in(path, text):
+    word, more = IN_FILE.get(path, ("", {}))
+    return more if word in text else {}
+
+
 def turned(text, words, more={}):
     def one(m):
         if m.group() in more:
@@ -171,7 +176,7 @@ def main():
                 text_steps = re.sub(r"(?<=[\w'])\.([a-z][a-z0-9]*(?:-[a-z0-9]+)+)(?![\w-])", lambda m: "." + m.group(1).replace("-", "_") if m.group(1) in steps else m.group(), text)
             else:
                 text_steps = text
-            after = source(text_steps, words - from_a_library(text, own), "--" if path.endswith(".antt") else "//", IN_FILE.get(path, {}))
+            after = source(text_steps, words - from_a_library(text, own), "--" if path.endswith(".antt") else "//", renamed_in(path, text))
         if after != text:
             with open(path, "w", encoding="utf-8") as f:
                 f.write(after)
