@@ -4,12 +4,12 @@
 # Runs the kit's gate, and fails where that fails, or where it says that a must-fail edit is bad: rt itself lets such an edit
 # pass, though it shows nothing. The last line is rt's own, 'N passed, M failed'.
 run_gate() {
-    mkdir -p target || return 1
+    mkdir -p target && rm -f target/gate.status || return 1
     {
         rt ci 2>&1
         echo "$?" >target/gate.status
     } | tee target/gate.log
-    [ "$(cat target/gate.status)" = 0 ] && ! grep -q '^rt: ok.*, [0-9][0-9]* bad' target/gate.log
+    [ "$(cat target/gate.status)" = 0 ] && grep -q '^rt: ok' target/gate.log && ! grep -q '^rt: ok.*, [0-9][0-9]* bad' target/gate.log
 }
 
 # Compiles the library, and notes the program of job sheets, over the crates as the gate has just proved and left them: on a clean
