@@ -1,12 +1,13 @@
 // Reads a job sheet from standard input and writes its answer to standard output. Where standard input can't be read or standard output
-// can't be written, a line on standard error says so, and the status is 1.
+// can't be written, a line on standard error says so, and the status is 1. Where nobody reads what it writes, it says nothing, and its
+// status is that of a program that the signal of a broken pipe ends: std has a program go on past that signal.
 #![tactic(auto)]
 
 ghost use Rattle.io.specs.Counts.{IsPrefixLen};
 ghost use Rattle.sheet.specs.Replies.{got_count, Replied};
 
 use answering::{LONGEST, TEXT};
-use std::io::Read;
+use std::io::{Error, ErrorKind, Read};
 use std::process::ExitCode;
 
 // What reading gave: so many bytes at the front of the buffer, up to the end of the input or of the buffer; or a read that failed.
@@ -59,6 +60,14 @@ fn fail(rt: &impl Eprint, line: &str) -> ExitCode {
     ExitCode::FAILURE
 }
 
+// 141 is 128 and the number of the signal of a broken pipe.
+fn fail_to_write(rt: &impl Eprint, why: &Error) -> ExitCode {
+    if why.kind() == ErrorKind::BrokenPipe {
+        return ExitCode::from(141);
+    }
+    fail(rt, "sheet: standard output can't be written")
+}
+
 // There is room for one byte more than a sheet may have, so that a longer one is noticed.
 fn main(rt: HostRuntime) -> ExitCode {
     let mut sheet = [0u8; LONGEST + 1];
@@ -67,7 +76,7 @@ fn main(rt: HostRuntime) -> ExitCode {
     match reply_to(got, &sheet[..], &mut text) {
         Reply::Unread => fail(&rt, "sheet: standard input can't be read"),
         Reply::Made(size) => match rt.write_all(&text[..size]) {
-            Err(_) => fail(&rt, "sheet: standard output can't be written"),
+            Err(why) => fail_to_write(&rt, &why),
             Ok(()) => ExitCode::SUCCESS,
         },
     }
