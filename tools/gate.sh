@@ -17,27 +17,27 @@ run_gate() {
 # have a stamp, and so are rt's own work of an earlier check, the gate has put that back, and rt lib goes on from there.
 compile_over_gate() {
     if ls crates/*/out/rlib/stamp >/dev/null 2>&1; then
-        (cd crates/door && rt lib) >target/library.log 2>&1
+        (cd crates/door_c && rt lib) >target/library.log 2>&1
     else
         build_over_gate >target/library.log 2>&1
-    fi && grep -q '^logic=proved ' target/library.log && need_library && note_gated sheet
+    fi && grep -q '^logic=proved ' target/library.log && place_library && note_gated sheet
 }
 
-# Does what `rt lib` does in crates/door once the crates below are built.
+# Does what `rt lib` does in crates/door_c once the crates below are built.
 build_over_gate() {
     find_kit
     top=$PWD
     set -- --extern "std=$kit/rlibs/std.rlib" -L "dependency=$kit/rlibs"
-    for crate in $(crates_of door); do
+    for crate in $(crates_of door_c); do
         set -- "$@" --extern "$crate=$top/crates/$crate/out/rlib/$crate.rlib"
     done
-    for crate in $(crates_for door); do
+    for crate in $(crates_for door_c); do
         set -- "$@" -L "dependency=$top/crates/$crate/out/rlib"
     done
-    cd crates/door && mkdir -p out || return
-    "$kit/bin/rattle" build --crate-name door src/lib.rt "$@" --antt-project "$kit/rattle/logic/antt-project.json" \
-        --logic-built "$kit/logic_built" --jobs 2 --links door= --crate-type staticlib --toolchain "$kit/toolchain" \
-        --backend llvm -o out/libdoor.a
+    cd crates/door_c && mkdir -p out || return
+    "$kit/bin/rattle" build --crate-name door_c src/lib.rt "$@" --antt-project "$kit/rattle/logic/antt-project.json" \
+        --logic-built "$kit/logic_built" --jobs 2 --links door_c= --crate-type staticlib --toolchain "$kit/toolchain" \
+        --backend llvm -o out/libdoor_c.a
     made=$?
     cd "$top" && return "$made"
 }

@@ -22,8 +22,7 @@ fn verdict_number(first: &[i32], second: &[i32]) -> u32
 }
 
 // Two triangles in space, 36 bytes each: nine numbers, low byte first. Gives 0 apart, 1 meeting, or 100 plus the number of the refusal.
-#[unsafe(no_mangle)]
-pub extern "C" fn zg_pair_bytes(a: &[u8], b: &[u8]) -> u32
+pub fn zg_pair_bytes(a: &[u8], b: &[u8]) -> u32
     ensures { BytesTold a.now b.now result }
 {
     if a.len() != 36 || b.len() != 36 {

@@ -1,7 +1,7 @@
 // The doors for programs in C and Rust: each public call of crates `predicate` and `listing` that they are to have, with its answer written
 // as four numbers into a buffer that the caller lends (crate `telling`), the pair call once more for triangles that are held as bytes, with its
-// answer as one number, a run of calls on a plate (crate `runs`), and the answer to a job sheet (crate `answering`). include/zimogrud.h declares
-// them for C.
+// answer as one number, a run of calls on a plate (crate `runs`), and the answer to a job sheet (crate `answering`). Crate `door_c` exports
+// them.
 //
 // A door has no `requires`: any lists, bytes and buffers may be given. In crate `telling` specs/Numbers.antt gives the numbers of every answer
 // and specs/Buffer.antt the result and the buffer afterwards; specs/Doors.antt cites them for the verdicts and the listing, and

@@ -4,14 +4,7 @@ ghost use Rattle.door.specs.Doors.{ListWritten};
 use telling::{list_numbers, put};
 
 // Every pair of triangles of two lists that have a point in common. Pairs that the caller couldn't be told the count of aren't written.
-#[unsafe(no_mangle)]
-pub extern "C" fn zg_list(
-    a: &[i32],
-    b: &[i32],
-    buffer: &mut [u32],
-    start: usize,
-    answer: &mut [u64],
-) -> u32
+pub fn zg_list(a: &[i32], b: &[i32], buffer: &mut [u32], start: usize, answer: &mut [u64]) -> u32
     ensures { ListWritten a.now b.now buffer.old start answer.old result buffer.new answer.new }
 {
     if answer.len() < 4 {

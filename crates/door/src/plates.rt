@@ -2,8 +2,7 @@
 ghost use Rattle.runs.specs.PlateRuns.{PlateRun};
 
 // Gives how many of the calls were done.
-#[unsafe(no_mangle)]
-pub extern "C" fn zg_plate(calls: &[u32], numbers: &[i32], answers: &mut [u64]) -> u64
+pub fn zg_plate(calls: &[u32], numbers: &[i32], answers: &mut [u64]) -> u64
     ensures { PlateRun calls.now numbers.now answers.old result answers.new }
 {
     runs::run_calls(calls, numbers, answers)

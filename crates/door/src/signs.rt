@@ -8,16 +8,14 @@ ghost use Rattle.telling.specs.Buffer.{Written};
 use telling::{put, sign_numbers};
 
 // The flat turn sign of six numbers, three points.
-#[unsafe(no_mangle)]
-pub extern "C" fn zg_turn(points: &[i32], answer: &mut [u64]) -> u32
+pub fn zg_turn(points: &[i32], answer: &mut [u64]) -> u32
     ensures { Written (four_numbers (with_served digit (sign_rule 2 points.now))) answer.old result answer.new }
 {
     put(answer, sign_numbers(predicate::turn_sign(points)))
 }
 
 // The spatial side sign of twelve numbers, four points.
-#[unsafe(no_mangle)]
-pub extern "C" fn zg_side(points: &[i32], answer: &mut [u64]) -> u32
+pub fn zg_side(points: &[i32], answer: &mut [u64]) -> u32
     ensures { Written (four_numbers (with_served digit (sign_rule 3 points.now))) answer.old result answer.new }
 {
     put(answer, sign_numbers(predicate::side_sign(points)))

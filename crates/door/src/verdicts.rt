@@ -5,24 +5,21 @@ ghost use Rattle.door.specs.Doors.{VerdictWritten};
 use telling::{put, verdict_numbers};
 
 // The flat test of two triangles in the plane, six numbers each. A flat one is refused.
-#[unsafe(no_mangle)]
-pub extern "C" fn zg_flat(a: &[i32], b: &[i32], answer: &mut [u64]) -> u32
+pub fn zg_flat(a: &[i32], b: &[i32], answer: &mut [u64]) -> u32
     ensures { VerdictWritten refuses_flat 2 3 3 a.now b.now answer.old result answer.new }
 {
     put(answer, verdict_numbers(predicate::flat_verdict(a, b)))
 }
 
 // A segment and a triangle in space, six numbers and nine. A flat one is the segment or the point that it is.
-#[unsafe(no_mangle)]
-pub extern "C" fn zg_segment(a: &[i32], b: &[i32], answer: &mut [u64]) -> u32
+pub fn zg_segment(a: &[i32], b: &[i32], answer: &mut [u64]) -> u32
     ensures { VerdictWritten takes_flat 3 2 3 a.now b.now answer.old result answer.new }
 {
     put(answer, verdict_numbers(predicate::segment_verdict(a, b)))
 }
 
 // Two triangles in space, nine numbers each. A flat one is the segment or the point that it is.
-#[unsafe(no_mangle)]
-pub extern "C" fn zg_pair(a: &[i32], b: &[i32], answer: &mut [u64]) -> u32
+pub fn zg_pair(a: &[i32], b: &[i32], answer: &mut [u64]) -> u32
     ensures { VerdictWritten takes_flat 3 3 3 a.now b.now answer.old result answer.new }
 {
     put(answer, verdict_numbers(predicate::pair_verdict(a, b)))
