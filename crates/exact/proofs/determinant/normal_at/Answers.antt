@@ -8,9 +8,3 @@ pub minors_of-requires : goal.minors_of-requires
 minors_of-requires c =
     let p = c.args in
     sized_minors (sized_normal p.a.on_grid p.b.on_grid p.c.on_grid) c.row_of.ensures c.row_of-2.ensures
-
-pub returns : goal.returns
-returns c =
-    let v = c.row_of.ensures in
-    let w = c.row_of-2.ensures in
-    c.minors_of.ensures ∙ (λ i. minors (v i) (w i))
