@@ -3,18 +3,18 @@
 use mathlib.Core.Path.{◌≡◌, refl, sym, ap, ◌∙◌}
 use mathlib.Core.Bool.{Bool, true, false, cond, ◌||◌}
 use mathlib.Core.List.{List, [], ◌∷◌, ◌++◌, map}
-use Prim.Native.Nat.{ℕ, zero, suc, ◌+◌, ◌*◌, ◌<◌}
+use Prim.Native.Nat.{ℕ, zero, suc, ◌+◌, ◌-◌, ◌*◌, ◌/◌, ◌<◌, ◌≤◌}
 use native.Mathlib.Numerals.{add-one}
 use native.Mathlib.Omega.{arith}
 use lib.IntN.{ℤ, pos}
-use lib.ListN.{get_or, take, drop}
+use lib.ListN.{length, get_or, take, drop}
 use lib.Seq.{get_or-take, get_or-drop}
 use Rattle.shape.specs.Points.{Point, Shape, point_at, points_at}
 use Rattle.shape.specs.Lists.{some}
 use Rattle.shape.specs.InsideTest.{is_ahead, odd_with, odd_ahead}
 use Rattle.std.specs.List.{list_any}
 use Rattle.std.specs.Simd.{first_chunks}
-use Rattle.std.proofs.lemmas.List.{map-append, drop-drop}
+use Rattle.std.proofs.lemmas.List.{map-append, drop-drop, drop-take, take-take, length-take-le}
 use Rattle.shape.specs.TriangleLists.{triangle_at, triangles_in, triangles_of}
 
 -- ---- a search: what an iterator's `any` answers, where each element stands for something that is tested
@@ -119,4 +119,9 @@ front_triangles n numbers h =
     so_many = rw (length-take-le (9 * n) numbers h) (omega arith)
 
     here : (j : ℕ) → j < n → take 9 (drop (9 * j) (take (9 * n) numbers)) ≡ take 9 (drop (9 * j) numbers)
-    here j k = ?
+    here j k =
+        let more : 9 * j + 9 * (n - j) ≡ 9 * n = omega arith in
+        let enough : 9 ≤ 9 * (n - j) = omega arith in
+        ap (λ (m : ℕ). take 9 (drop (9 * j) (take m numbers))) (sym more)
+        ∙ ap (take 9) (drop-take (9 * j) (9 * (n - j)) numbers)
+        ∙ take-take 9 (9 * (n - j)) (drop (9 * j) numbers) enough
