@@ -71,7 +71,6 @@ fn times_in(triangle: &[i32; 9], edge: Edge) -> usize
 
 // How often it occurs in all.
 fn times(triangles: &[[i32; 9]], edge: Edge) -> usize
-    requires { 3 * length triangles.now < 2 ^ 64 }
     ensures { result ≡ occurs (directed edge) (held_by edges_of (triangles_of triangles.now)) }
 {
     triangles
@@ -82,7 +81,6 @@ fn times(triangles: &[[i32; 9]], edge: Edge) -> usize
 
 // Whether an edge does not occur once, or its reverse does not.
 fn edge_open(triangles: &[[i32; 9]], edge: Edge) -> bool
-    requires { 3 * length triangles.now < 2 ^ 64 }
     ensures { result ≡ edge_open (triangles_of triangles.now) (directed edge) }
 {
     times(triangles, edge) != 1 || times(triangles, edge.reverse()) != 1
@@ -90,7 +88,6 @@ fn edge_open(triangles: &[[i32; 9]], edge: Edge) -> bool
 
 // Whether a triangle has such an edge.
 fn has_open_edge(triangles: &[[i32; 9]], triangle: &[i32; 9]) -> bool
-    requires { 3 * length triangles.now < 2 ^ 64 }
     ensures { result ≡ some (edge_open (triangles_of triangles.now)) (edges_of (triangle_of triangle.now)) }
 {
     edges_of(triangle)

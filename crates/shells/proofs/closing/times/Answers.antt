@@ -13,7 +13,7 @@ sum-requires-clause-fits c =
     let there = times_there (directed c.args.edge) in
     fits_by_from_yields_list there ts c.map.result _
     (YieldsList-from_map _ there (YieldsList-at c.map.ensures.source (YieldsList-from_slice ts cc)) c.map.ensures.closure (λ x r q k. search rules))
-    (omega (arith, times_most (directed c.args.edge) ts, c.requires))
+    (omega (arith, times_most (directed c.args.edge) ts, c.told-triangles))
 
 pub returns : goal.returns
 returns c =
