@@ -1,7 +1,7 @@
 -- What the proofs of the functions share.
 --   Levels    the level of the first number that isn't zero, told step by step
---   Parity    whether an odd number of triangles is ahead, counted
+--   Counts    whether an odd number of triangles is ahead, counted
 --   Chunks    the triangles of a list of numbers on the grid
 pub mod Levels
-pub mod Parity
+pub mod Counts
 pub mod Chunks

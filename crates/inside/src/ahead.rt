@@ -49,8 +49,5 @@ pub fn triangle_ahead(t: Triangle<SpacePoint>, p: SpacePoint) -> bool
     ensures { result ≡ is_ahead (spatial p) (spatial t.p ∷ spatial t.q ∷ spatial t.r ∷ []) }
 {
     let e = edge_level(t.p, t.q, p);
-    e != 1
-        && edge_level(t.q, t.r, p) == e
-        && edge_level(t.r, t.p, p) == e
-        && plane_level(t, p) == e
+    e != 1 && edge_level(t.q, t.r, p) == e && edge_level(t.r, t.p, p) == e && plane_level(t, p) == e
 }

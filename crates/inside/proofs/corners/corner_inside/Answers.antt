@@ -4,7 +4,7 @@ use Rattle.std.specs.List.{list_any, All}
 use Rattle.std.proofs.lemmas.Iterator.{YieldsList-from_slice}
 use Rattle.std.proofs.lemmas.Iterator.Adapters.{serves_from_places}
 use Rattle.std.proofs.lemmas.Iterator.Search.{any_from_yields_List}
-use Rattle.shape.specs.Points.{Shape, Point}
+use Rattle.shape.specs.Points.{Point}
 use Rattle.shape.specs.Lists.{some}
 use Rattle.shape.specs.InsideTest.{odd_ahead, corner_in}
 use Rattle.shape.specs.TriangleLists.{triangle_of, triangles_of}
@@ -28,7 +28,7 @@ returns c =
     let us = c.as_chunks-2.result.0.now in
     let inner : Point → Bool = λ a. odd_ahead a (triangles_of us) in
     let asked : c.any.result ≡ list_any (λ (t : List ℤ). some inner (triangle_of t)) ts =
-        any_from_yields_List (λ (t : List ℤ). some inner (triangle_of t)) _ _ c.any.result c.any.ensures.ran (YieldsList-from_slice ts cc) (λ x b q k. search (rules, tests)) in
+    any_from_yields_List (λ (t : List ℤ). some inner (triangle_of t)) _ _ c.any.result c.any.ensures.ran (YieldsList-from_slice ts cc) (λ x b q k. search (rules, tests)) in
     let all_first = ap triangles_of c.as_chunks.ensures.front ∙ chunks_hold (length c.args.triangles.now / 9) c.args.triangles.now in
     let all_second = ap triangles_of c.as_chunks-2.ensures.front ∙ chunks_hold (length c.args.others.now / 9) c.args.others.now in
     asked

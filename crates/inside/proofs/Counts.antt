@@ -1,5 +1,5 @@
 -- Whether a number is odd, counted; and the triangles of a list of numbers on the grid. Assumes nothing.
-use Rattle.std.proofs.Common.{◌≡◌, refl, sym, ap, ◌∙◌, ℕ, zero, suc, ◌+◌, ◌*◌, ◌%◌, ◌<◌, Bool, true, false, cond, not, eqb, List, [], ◌∷◌, filter, length, arith, ℤ}
+use Rattle.std.proofs.Common.{◌≡◌, refl, ap, ◌∙◌, ℕ, zero, suc, ◌+◌, ◌%◌, ◌<◌, Bool, true, false, cond, not, eqb, List, [], ◌∷◌, filter, length, arith, ℤ}
 use Rattle.shape.specs.Points.{Point}
 use Rattle.shape.specs.InsideTest.{is_ahead, odd_with, odd_ahead}
 use Rattle.shape.specs.TriangleLists.{triangle_of, triangles_of}
