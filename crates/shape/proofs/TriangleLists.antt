@@ -1,5 +1,5 @@
--- The triangles at the front of a list of numbers, one after the other: a search among them, how many of them lie ahead of a point, and where their
--- numbers stand. Assumes nothing.
+-- The triangles at the front of a list of numbers, one after the other: a search among them, where their numbers stand, and the same nine numbers at a
+-- time. Assumes nothing.
 use mathlib.Core.Path.{◌≡◌, refl, sym, ap, ◌∙◌}
 use mathlib.Core.Bool.{Bool, true, false, cond, ◌||◌}
 use mathlib.Core.List.{List, [], ◌∷◌, ◌++◌, map}
@@ -9,9 +9,8 @@ use native.Mathlib.Omega.{arith}
 use lib.IntN.{ℤ, pos}
 use lib.ListN.{length, get_or, take, drop}
 use lib.Seq.{get_or-take, get_or-drop}
-use Rattle.shape.specs.Points.{Point, Shape, point_at, points_at}
+use Rattle.shape.specs.Points.{points_at}
 use Rattle.shape.specs.Lists.{some}
-use Rattle.shape.specs.InsideTest.{is_ahead, odd_with, odd_ahead}
 use Rattle.std.specs.List.{list_any}
 use Rattle.std.specs.Simd.{first_chunks}
 use Rattle.std.proofs.lemmas.List.{map-append, drop-drop, drop-take, take-take, length-take-le}
@@ -26,32 +25,6 @@ any_some stands test (a ∷ l) = by_head (test (stands a)) (any_some stands test
         b || list_any (λ a. test (stands a)) l ≡ cond b true (some test (map stands l))
     by_head true e = refl
     by_head false e = e
-
--- ---- ahead of a point
-module _ (p : Point) where
-  odd_append : (Ps : List Shape) (P : Shape) → odd_ahead p (Ps ++ (P ∷ [])) ≡ odd_with (is_ahead p P) (odd_ahead p Ps)
-  odd_append [] P = refl
-  odd_append (Q ∷ Ps) P =
-      ap (odd_with (is_ahead p Q)) (odd_append Ps P) ∙ trade (is_ahead p Q) (is_ahead p P) (odd_ahead p Ps)
-    where
-      trade : (a b v : Bool) → odd_with a (odd_with b v) ≡ odd_with b (odd_with a v)
-      trade true true v = refl
-      trade true false v = refl
-      trade false true v = refl
-      trade false false v = refl
-
-  pub odd_none : (numbers : List ℤ) → false ≡ odd_ahead p (triangles_in 0 numbers)
-  unfolding triangles_in
-  odd_none numbers = refl
-
-  odd_next : (numbers : List ℤ) (i : ℕ) → odd_ahead p (triangles_in (suc i) numbers) ≡ odd_with (is_ahead p (triangle_at i numbers)) (odd_ahead p (triangles_in i numbers))
-  unfolding triangles_in
-  odd_next numbers i = odd_append (triangles_in i numbers) (triangle_at i numbers)
-
-  pub odd_more : (numbers : List ℤ) (i : ℕ) {odd more new : Bool} → odd ≡ odd_ahead p (triangles_in i numbers) →
-      more ≡ is_ahead p (triangle_at i numbers) → new ≡ odd_with more odd → new ≡ odd_ahead p (triangles_in (i + 1) numbers)
-  odd_more numbers i e f g =
-      g ∙ (λ k. odd_with (f k) (e k)) ∙ sym (odd_next numbers i) ∙ ap (λ (n : ℕ). odd_ahead p (triangles_in n numbers)) (sym (add-one i))
 
 -- ---- a triangle is read where it stands
 number_at : (numbers : List ℤ) (i k at : ℕ) → k < 9 → 9 * i + k ≡ at → get_or (take 9 (drop (9 * i) numbers)) k (pos 0) ≡ get_or numbers at (pos 0)
@@ -73,10 +46,6 @@ triangle_at_law numbers i =
     let h = n 7 (suc (p + 3 + 3)) (omega arith) (omega arith) in
     let k = n 8 (suc (suc (p + 3 + 3))) (omega arith) (omega arith) in
     λ x. (a x ∷ b x ∷ c x ∷ []) ∷ (d x ∷ e x ∷ f x ∷ []) ∷ (g x ∷ h x ∷ k x ∷ []) ∷ []
-
--- Its third corner, as code names it.
-pub third_corner : (i : ℕ) (numbers : List ℤ) → point_at 3 (9 * i + 6) numbers ≡ point_at 3 (9 * i + 3 + 3) numbers
-third_corner i numbers = ap (λ (p : ℕ). point_at 3 p numbers) {x = 9 * i + 6} {y = 9 * i + 3 + 3} (omega arith)
 
 -- Lists with the same nine numbers at each of the first n triangles have these in common; and one triangle more at the end.
 pub triangles_same : (n : ℕ) (l m : List ℤ) → ((j : ℕ) → j < n → take 9 (drop (9 * j) l) ≡ take 9 (drop (9 * j) m)) → triangles_in n l ≡ triangles_in n m
