@@ -5,7 +5,6 @@ use mathlib.Core.List.{List, [], ◌∷◌}
 use Prim.Native.Nat.{ℕ, zero, suc, ◌+◌, ◌^◌, ◌<◌}
 use native.Mathlib.Omega.{arith}
 use borrow.Author.Count.{below_more}
-use borrow.Author.Differences.{ints}
 use borrow.Author.Rules.{sfits_of}
 use lib.IntN.{ℤ, pos}
 use lib.ListN.{length, set, length-set, get_or}
@@ -14,7 +13,6 @@ use mir.Syntax.{w32}
 use mir.Val.{to_z, of_z, hbits}
 use mir.Facts.{to_z-of_z}
 use Rattle.std.proofs.lemmas.List.{get_or-set_same, get_or-set_other}
-use Rattle.std.specs.Int.{int_min, int_max}
 use Rattle.algebra.proofs.Order.{lt_true, lt_false, le_of_lt, ≤ℤ-trans}
 use Rattle.shape.specs.Points.{coord, point_at, points_at}
 use Rattle.shape.specs.Sharing.{Share}
@@ -57,13 +55,6 @@ module _ (wins : ℤ → ℤ → Bool) (c : ℕ) (l : List ℤ) where
       ∙ (λ i. pick (read two first i) (read z h i))
       ∙ is two z
       ∙ ap (λ (t : ℤ). better wins t z) (e ∙ (λ i. pick (read x f i) (read y g i)) ∙ is x y)
-
--- The library's lesser and greater of two numbers are the better of them.
-pub lesser_is : (x y : ℤ) → int_min x y ≡ better smaller x y
-lesser_is x y = refl
-
-pub greater_is : (x y : ℤ) → int_max x y ≡ better larger x y
-greater_is x y = grind (arith, ints)
 
 -- It is as good as each of them, by whatever order the test decides.
 module _ (R : ℤ → ℤ → Type 0) (wins : ℤ → ℤ → Bool) (reflexive : (x : ℤ) → R x x) (transitive : (x y z : ℤ) → R x y → R y z → R x z)

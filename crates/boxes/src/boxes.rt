@@ -4,7 +4,7 @@
 ghost use Rattle.std.specs.Prelude.{◌≡◌, ℕ, ◌+◌, ◌*◌, ◌≤◌, ◌<◌, length};
 ghost use Rattle.boxes.specs.Triangles.{triangles, nine};
 ghost use Rattle.boxes.specs.Rows.{row_at, Takes, Wrote};
-ghost use Rattle.boxes.specs.Boxes.{smaller, larger, better, best_at, box_of, apart_along, boxes_apart, Boxed, Sound, Normals, Planes};
+ghost use Rattle.boxes.specs.Boxes.{box_of, apart_along, boxes_apart, Boxed, Sound, Normals, Planes};
 
 use kernel::{put_normal, put_plane};
 

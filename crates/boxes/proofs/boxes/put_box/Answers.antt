@@ -1,10 +1,20 @@
 -- `boxes::boxes::put_box` meets its contract: at the coordinates before c the least and the greatest stand. Assumes nothing.
+use mathlib.Core.Path.{◌≡◌, refl}
 use native.Mathlib.Omega.{arith}
 use borrow.Author.Rules.{rules}
+use borrow.Author.Differences.{ints}
+use lib.IntN.{ℤ}
 use Rattle.std.specs.Int.{int_min, int_max}
-use Rattle.boxes.specs.Boxes.{smaller, larger}
-use Rattle.boxes.proofs.BoxLaws.{best_read, lesser_is, greater_is, bounded_more, all_bounded}
+use Rattle.boxes.specs.Boxes.{smaller, larger, better}
+use Rattle.boxes.proofs.BoxLaws.{best_read, bounded_more, all_bounded}
 use Rattle.boxes.proofs.boxes.put_box.Goals as goal
+
+-- The library's lesser and greater of two numbers are the better of them.
+lesser_is : (x y : ℤ) → int_min x y ≡ better smaller x y
+lesser_is x y = refl
+
+greater_is : (x y : ℤ) → int_max x y ≡ better larger x y
+greater_is x y = grind (arith, ints)
 
 pub loop-c-preserved : goal.loop-c-preserved
 loop-c-preserved c =
