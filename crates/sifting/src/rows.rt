@@ -13,7 +13,10 @@ impl Sieve {
         ensures { RowFor self.now.marks e number result }
     {
         let marks = &self.marks[16 * e..16 * e + 16];
-        let passed = marks.iter().filter(|mark| **mark <= number).count();
+        let mut passed = 0;
+        for mark in marks {
+            passed += (*mark <= number) as usize;
+        }
         if passed < 16 && number < marks[passed] {
             16 * e + passed
         } else {
