@@ -1,9 +1,11 @@
 -- What code finds in the range of the 64 slots it finds in the list of them. Assumes nothing.
-use Rattle.std.proofs.Common.{◌≡◌, refl, sym, ap, ◌∙◌, Bool, true, false, cond, ◌||◌, ℕ, zero, suc, ◌+◌, ◌<◌, List, [], ◌∷◌, length, get_or, arith}
+use Rattle.std.proofs.Common.{◌≡◌, refl, sym, ap, ◌∙◌, Bool, true, false, cond, ◌||◌, ℕ, suc, ◌+◌, ◌<◌, List, [], ◌∷◌, length, get_or, arith}
 use Rattle.std.specs.List.{list_any, filter, range_with_len}
 use borrow.Author.Tests.{eq-eqb, ne_eqb}
 use Rattle.std.proofs.Common.{ℤ}
-use Rattle.shape.specs.Lists.{some}
+use Rattle.std.proofs.Common.{◌≤◌, Option, Some, None, MatchOption}
+use Rattle.shape.specs.Lists.{some, lowest}
+use Rattle.shape.proofs.ListLaws.{lowest_at, lowest_none}
 use Rattle.slots.specs.Slots.{Slot, free}
 use Rattle.slots.specs.Arrays.{mark_of}
 use lib.Dec.{eqb}
@@ -33,6 +35,24 @@ module _ {A : Type 0} (test : A → Bool) (z : A) where
   some_in_range l n long =
       ap (λ (m : ℕ). list_any (λ j. test (get_or l j z)) (range_with_len 0 m)) (sym long)
       ∙ some_range l 0 (λ j. test (get_or l j z)) (λ j. ap (λ (k : ℕ). test (get_or l k z)) (omega arith))
+
+  -- The lowest slot that passes one.
+  pub lowest_in_range : (l : List A) (n : ℕ) → length l ≡ n → (r : Option ℕ)
+      → MatchOption r ((k : ℕ) → 0 ≤ k → k < n → test (get_or l k z) ≡ false)
+      (λ i. (0 ≤ i) × (i < n) × (test (get_or l i z) ≡ true) × ((k : ℕ) → 0 ≤ k → k < i → test (get_or l k z) ≡ false))
+      → MatchOption r (lowest test l ≡ n) (λ i. (i < n) × (lowest test l ≡ i))
+  lowest_in_range l n long None none = lowest_none test z l (λ k h. none k (omega arith) (omega (arith, h, long))) ∙ long
+  lowest_in_range l n long (Some i) (_, inside, passes, before) =
+      (inside, lowest_at test z l i (λ k h. before k (omega arith) h) (omega (arith, inside, long)) passes)
+
+-- Two words for one thing.
+pub any_is_some : {A : Type 0} (test : A → Bool) (l : List A) → list_any test l ≡ some test l
+any_is_some test [] = refl
+any_is_some test (x ∷ l) = either (test x) ∙ ap (λ (b : Bool). cond (test x) true b) (any_is_some test l)
+  where
+    either : (b : Bool) → (b || list_any test l) ≡ cond b true (list_any test l)
+    either true = refl
+    either false = refl
 
 -- How many slots clash with one.
 row_range : (x : Slot) (l : List Slot) (a : ℕ) (at : ℕ → Bool) → ((j : ℕ) → at (a + j) ≡ strikes x (get_or l j free)) →

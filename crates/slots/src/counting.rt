@@ -12,12 +12,12 @@ use kernel::triangles_meet;
 
 // Slots whose coordinates all lie on the grid, as the pair test asks.
 #[derive(Clone, Copy)]
-pub struct OnGrid<'a> {
+pub struct GridSlots<'a> {
     pub slots: &'a Slots,
     ghost on: { all_on slots.now.coords ≡ true },
 }
 
-impl<'a> OnGrid<'a> {
+impl<'a> GridSlots<'a> {
     // Whether two slots clash.
     fn strikes(self, i: usize, j: usize) -> bool
         requires { (i < 64) × (j < 64) }
@@ -89,11 +89,11 @@ impl<'a> OnGrid<'a> {
 
 impl Slots {
     // The same slots, if all their coordinates lie on the grid.
-    pub fn on_grid(&self) -> Option<OnGrid<'_>>
+    pub fn on_grid(&self) -> Option<GridSlots<'_>>
         ensures { MatchOption result (all_on self.now.coords ≡ false) (λ on. on.slots.now ≡ self.now) }
     {
         if all_on(&self.coords) {
-            Some(OnGrid { slots: self })
+            Some(GridSlots { slots: self })
         } else {
             None
         }
@@ -118,7 +118,9 @@ impl Slots {
     pub fn marks_strike(&self, first: u8, second: u8) -> bool
         ensures { (S : List Slot) → Shown S self.now.coords self.now.marks → result ≡ marks_strike first second S }
     {
-        self.on_grid()
-            .is_some_and(|on| on.marks_strike(first, second))
+        match self.on_grid() {
+            Some(on) => on.marks_strike(first, second),
+            None => false,
+        }
     }
 }

@@ -56,11 +56,19 @@ impl Slots {
         }
     }
 
+    // Whether a slot has this mark and would leave the grid.
+    fn slot_leaves(&self, i: usize, mark: u8, by: &[i32; 9]) -> bool
+        requires { i < 64 }
+        ensures { (S : List Slot) (q : ℕ) → Shown S self.now.coords self.now.marks → mark ≡ suc q → result ≡ leaves q by.now (slice_index_or S i free) }
+    {
+        self.marks[i] == mark && !stay_on(self.numbers(i), by)
+    }
+
     // The lowest slot that would leave the grid if this mark moved.
     pub fn lowest_leaving(&self, mark: u8, by: &[i32; 9]) -> Option<usize>
         ensures { (S : List Slot) (q : ℕ) → Shown S self.now.coords self.now.marks → mark ≡ suc q →
             MatchOption result (lowest (leaves q by.now) S ≡ 64) (λ i. (i < 64) × (lowest (leaves q by.now) S ≡ i)) }
     {
-        (0..64).find(|i| self.marks[*i] == mark && !stay_on(self.numbers(*i), by))
+        (0..64).find(|i| self.slot_leaves(*i, mark, by))
     }
 }

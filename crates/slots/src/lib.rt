@@ -5,5 +5,5 @@
 mod counting;
 mod flat;
 
-pub use counting::OnGrid;
+pub use counting::GridSlots;
 pub use flat::Slots;

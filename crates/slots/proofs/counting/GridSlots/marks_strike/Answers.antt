@@ -1,4 +1,4 @@
--- `slots::counting::OnGrid::marks_strike` meets its contract: of each slot the mark decides, and then whether it clashes with a slot of the second
+-- `slots::counting::GridSlots::marks_strike` meets its contract: of each slot the mark decides, and then whether it clashes with a slot of the second
 -- mark. Assumes nothing.
 use Rattle.std.proofs.Common.{rules, tests, refl, ◌∙◌, get_or}
 use Rattle.std.proofs.lemmas.Iterator.{YieldsList-from_range}
@@ -6,7 +6,7 @@ use Rattle.std.proofs.lemmas.Iterator.Search.{any_from_yields_List}
 use Rattle.slots.specs.Slots.{free}
 use Rattle.slots.specs.Counting.{slot_strikes}
 use Rattle.slots.proofs.Ranges.{some_in_range, other_marked, same_marked}
-use Rattle.slots.proofs.counting.OnGrid.marks_strike.Goals as goal
+use Rattle.slots.proofs.counting.GridSlots.marks_strike.Goals as goal
 
 pub returns : goal.returns
 returns c = λ S h.

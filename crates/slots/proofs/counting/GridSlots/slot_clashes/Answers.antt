@@ -1,4 +1,4 @@
--- `slots::counting::OnGrid::slot_clashes` meets its contract: it counts the slots that clash with slot i. Assumes nothing.
+-- `slots::counting::GridSlots::slot_clashes` meets its contract: it counts the slots that clash with slot i. Assumes nothing.
 use Rattle.std.proofs.Common.{rules, tests, refl, sym, ◌∙◌, get_or}
 use Rattle.std.proofs.lemmas.Iterator.{YieldsList-from_range}
 use Rattle.std.proofs.lemmas.Iterator.Consumers.{YieldsList-from_filter, count_from_yields_List}
@@ -7,7 +7,7 @@ use Rattle.slots.specs.Counting.{strikes}
 use Rattle.slots.proofs.Arrays.{mark_is}
 use Rattle.slots.proofs.Counts.{row_unmarked}
 use Rattle.slots.proofs.Ranges.{row_in_range}
-use Rattle.slots.proofs.counting.OnGrid.slot_clashes.Goals as goal
+use Rattle.slots.proofs.counting.GridSlots.slot_clashes.Goals as goal
 
 pub returns-then-self-i-eq0-clause-row : goal.returns-then-self-i-eq0-clause-row
 returns-then-self-i-eq0-clause-row c = λ S h. row_unmarked (get_or S c.args.i free) S (sym (mark_is h c.args.i) ∙ c.if-self-i-eq0.true)

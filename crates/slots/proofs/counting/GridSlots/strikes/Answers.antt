@@ -1,12 +1,12 @@
--- `slots::counting::OnGrid::strikes` meets its contract: the marks decide, and where they leave it open the pair test does. Assumes nothing.
+-- `slots::counting::GridSlots::strikes` meets its contract: the marks decide, and where they leave it open the pair test does. Assumes nothing.
 use Rattle.std.proofs.Common.{sym, ◌∙◌}
 use Rattle.slots.proofs.Clashing.{strikes_sym}
 use Rattle.slots.proofs.Counts.{strikes_free, strikes_same}
 use Rattle.slots.proofs.Arrays.{mark_is}
 use Rattle.slots.proofs.Grids.{nine_ready}
 use Rattle.slots.proofs.Verdicts.{strikes_tested}
-use Rattle.slots.proofs.counting.OnGrid.strikes.Goals as goal
-use Rattle.slots.proofs.counting.OnGrid.strikes.Goals.{then-p-eq0-via-then-p-eq0, then-p-eq0-via-else-p-eq0+then-q-eq0, then-p-eq0-via-else-p-eq0+else-q-eq0+then-p-q}
+use Rattle.slots.proofs.counting.GridSlots.strikes.Goals as goal
+use Rattle.slots.proofs.counting.GridSlots.strikes.Goals.{then-p-eq0-via-then-p-eq0, then-p-eq0-via-else-p-eq0+then-q-eq0, then-p-eq0-via-else-p-eq0+else-q-eq0+then-p-q}
 
 pub returns-then-p-eq0 : goal.returns-then-p-eq0
 returns-then-p-eq0 c = λ S h.
@@ -18,9 +18,10 @@ returns-then-p-eq0 c = λ S h.
 
 pub triangles_meet-requires : goal.triangles_meet-requires
 triangles_meet-requires c =
-    let on = c.args.self in
-    (nine_ready c.args.i on.slots.now.coords c.numbers.ensures.value c.numbers.ensures.len on.on,
-    nine_ready c.args.j on.slots.now.coords c.numbers-2.ensures.value c.numbers-2.ensures.len on.on)
+    let on = c.args.self in (
+      nine_ready c.args.i on.slots.now.coords c.numbers.ensures.value c.numbers.ensures.len on.on,
+      nine_ready c.args.j on.slots.now.coords c.numbers-2.ensures.value c.numbers-2.ensures.len on.on,
+    )
 
 pub returns : goal.returns
 returns c = λ S h.

@@ -1,11 +1,11 @@
--- `slots::counting::OnGrid::strikes_mark` meets its contract: of each slot the mark decides, and then whether it clashes with slot i. Assumes nothing.
+-- `slots::counting::GridSlots::strikes_mark` meets its contract: of each slot the mark decides, and then whether it clashes with slot i. Assumes nothing.
 use Rattle.std.proofs.Common.{rules, tests, refl, ◌∙◌, get_or}
 use Rattle.std.proofs.lemmas.Iterator.{YieldsList-from_range}
 use Rattle.std.proofs.lemmas.Iterator.Search.{any_from_yields_List}
 use Rattle.slots.specs.Slots.{free}
 use Rattle.slots.specs.Counting.{strikes_if}
 use Rattle.slots.proofs.Ranges.{some_in_range, other_marked, same_marked}
-use Rattle.slots.proofs.counting.OnGrid.strikes_mark.Goals as goal
+use Rattle.slots.proofs.counting.GridSlots.strikes_mark.Goals as goal
 
 pub returns : goal.returns
 returns c = λ S h.
