@@ -1,3 +1,3 @@
 -- What the contracts of the verdicts cite, and those of the crates above: the vocabulary of the leaves.
 pub mod Words
-pub mod Stages
+pub mod Places
