@@ -1,4 +1,4 @@
--- `words::flags::flag_at` meets its contract: within 64 bits nothing is shifted out. Assumes nothing.
+-- `words::bits::flag_at` meets its contract: within 64 bits nothing is shifted out. Assumes nothing.
 use mathlib.Core.Path.{◌≡◌}
 use mathlib.Core.Bool.{Bool, true, false}
 use Prim.Native.Nat.{ℕ, suc, ◌*◌, ◌^◌, ◌%◌, ◌<◌, ◌≤◌}
@@ -6,7 +6,7 @@ use native.Mathlib.Omega.{arith}
 use native.Mathlib.Nat.{pow-le-pow_right}
 use lib.Pow.{pow_pos}
 use mir.Val.{bool_byte}
-use Rattle.words.proofs.flags.flag_at.Goals as goal
+use Rattle.words.proofs.bits.flag_at.Goals as goal
 
 shifted : (flag : Bool) (place : ℕ) → place < 64 → bool_byte flag * 2 ^ place % 2 ^ 64 ≡ bool_byte flag * 2 ^ place
 shifted flag place h = by_flag flag
