@@ -2,3 +2,4 @@
 #![tactic(auto)]
 
 mod places;
+mod standings;

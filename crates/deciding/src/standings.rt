@@ -1,0 +1,152 @@
+// The first two stages in which a word of candidates is decided: how each of two triangles stands to the other's plane. Each is a loop over the bits that
+// are set, and leaves fewer: no branch depends on what the triangles are like, which no processor guesses. The estimate is asked first, and what it
+// can't tell is asked exactly; or of small numbers all by their low words.
+ghost use Rattle.std.specs.Prelude.{◌≡◌, ℕ, true, false, ◌<◌, length, get_or};
+ghost use Rattle.words.specs.Bits.{bit};
+ghost use Rattle.exact.specs.Small.{Narrow};
+ghost use Rattle.deciding.specs.Places.{lined, Meant, Planed, Paired, Posed};
+ghost use Rattle.deciding.specs.Stages.{Clear, StandsAt, SeemsAt, Told, Marked, Parted, SortedAt, seems_alone, is_open, is_alone, is_within};
+
+use crate::places::{Left, Pairs};
+use kernel::{estimated_standing, exact_standing, low_standing};
+use words::{Bits, flag_at};
+
+// Whether a standing is told by the estimate, and a corner is alone.
+fn seems_alone(s: u32) -> bool
+    ensures { result ≡ seems_alone s }
+{
+    (1 < s) & (s < 16)
+}
+
+// Whether it has to be asked exactly.
+fn is_open(s: u32) -> bool
+    ensures { result ≡ is_open s }
+{
+    (s == 1) | (15 < s)
+}
+
+// Whether a corner is alone, of a standing that is exact.
+fn is_alone(s: u32) -> bool
+    ensures { result ≡ is_alone s }
+{
+    1 < s
+}
+
+// Whether the triangle is within the plane.
+fn is_within(s: u32) -> bool
+    ensures { result ≡ is_within s }
+{
+    s == 1
+}
+
+// The numbers at the places that are asked, beside the pairs that are sorted already: one test tells which are kept, another which go to the others.
+#[inline(always)]
+fn sort_places<A: Fn(u32) -> u32, K: Fn(u32) -> bool, O: Fn(u32) -> bool>(
+    standings: &mut [u32],
+    asked: u64,
+    sorted: Left,
+    ask: A,
+    is_kept: K,
+    is_other: O,
+) -> Left
+    requires long { length standings.old ≡ 64 }
+    requires clear { Clear asked sorted.kept × Clear asked sorted.other }
+    requires askable { (z : ℕ) → z < 64 → bit z asked ≡ true → A.pre ask z }
+    requires tests { K.IsAlwaysCallable is_kept × O.IsAlwaysCallable is_other }
+    ensures { Told (A.post ask) asked standings.old standings.new × Marked (λ z b. K.post is_kept (get_or standings.new z 0) b) sorted.kept asked result.kept × Marked (λ z b. O.post is_other (get_or standings.new z 0) b) sorted.other asked result.other }
+{
+    let mut kept = sorted.kept;
+    let mut other = sorted.other;
+    for z in Bits(asked) {
+        let s = ask(z);
+        standings[z as usize] = s;
+        kept += flag_at(is_kept(s), z);
+        other += flag_at(is_other(s), z);
+    }
+    Left { kept, other }
+}
+
+// The standings at the places that are asked, by the estimate.
+fn stand_by_estimate(pairs: &Pairs, standings: &mut [u32], asked: u64) -> Left
+    requires { (length standings.old ≡ 64) × Posed pairs.now asked × (pairs.now.narrow ≡ false) }
+    ensures { Told (SeemsAt pairs.now) asked standings.old standings.new × Marked (λ z b. b ≡ seems_alone (get_or standings.new z 0)) 0 asked result.kept × Marked (λ z b. b ≡ is_open (get_or standings.new z 0)) 0 asked result.other }
+{
+    let estimated = |z: u32| -> u32
+        requires { Paired pairs.now z × (pairs.now.narrow ≡ false) }
+        ensures { SeemsAt pairs.entry.now z result }
+    {
+        estimated_standing(
+            pairs.first.corners(z),
+            pairs.second.corners(z),
+            pairs.second.plane(z),
+        )
+    };
+    sort_places(
+        standings,
+        asked,
+        Left { kept: 0, other: 0 },
+        estimated,
+        seems_alone,
+        is_open,
+    )
+}
+
+// The standings at the places that are asked, exactly: pairs with a corner alone go to those that are kept, and pairs in one plane to the others.
+fn stand_exactly(pairs: &Pairs, standings: &mut [u32], asked: u64, sorted: Left) -> Left
+    requires { (length standings.old ≡ 64) × Posed pairs.now asked × (pairs.now.narrow ≡ false) × Clear asked sorted.kept × Clear asked sorted.other }
+    ensures { Told (StandsAt pairs.now) asked standings.old standings.new × Marked (λ z b. b ≡ is_alone (get_or standings.new z 0)) sorted.kept asked result.kept × Marked (λ z b. b ≡ is_within (get_or standings.new z 0)) sorted.other asked result.other }
+{
+    let exact = |z: u32| -> u32
+        requires { Paired pairs.now z × (pairs.now.narrow ≡ false) }
+        ensures { StandsAt pairs.entry.now z result }
+    {
+        exact_standing(
+            pairs.first.corners(z),
+            pairs.second.corners(z),
+            pairs.second.normal(z),
+            pairs.second.plane(z),
+        )
+    };
+    sort_places(standings, asked, sorted, exact, is_alone, is_within)
+}
+
+// What `stand_exactly` gives, where all numbers are small: the estimate would not be worth asking.
+fn stand_low(pairs: &Pairs, standings: &mut [u32], asked: u64, sorted: Left) -> Left
+    requires { (length standings.old ≡ 64) × Posed pairs.now asked × (pairs.now.narrow ≡ true) × Clear asked sorted.kept × Clear asked sorted.other }
+    ensures { Told (StandsAt pairs.now) asked standings.old standings.new × Marked (λ z b. b ≡ is_alone (get_or standings.new z 0)) sorted.kept asked result.kept × Marked (λ z b. b ≡ is_within (get_or standings.new z 0)) sorted.other asked result.other }
+{
+    let low = |z: u32| -> u32
+        requires { Paired pairs.now z × (pairs.now.narrow ≡ true) }
+        ensures { StandsAt pairs.entry.now z result }
+    {
+        low_standing(
+            pairs.first.corners(z),
+            pairs.second.corners(z),
+            pairs.second.normal(z),
+        )
+    };
+    sort_places(standings, asked, sorted, low, is_alone, is_within)
+}
+
+// How the first triangle of each pair stands to the plane of the second, beside the pairs that are close already. Pairs with a corner alone are kept, and
+// pairs in one plane go to the others; what is neither is apart. It is asked for inline, like all that it calls here, because the compiler then has a loop
+// for each place that asks, in which it knows what stays the same.
+#[inline(always)]
+pub fn stand(pairs: &Pairs, standings: &mut [u32], asked: u64, close: u64) -> Left
+    requires { (length standings.old ≡ 64) × Posed pairs.now asked × Clear asked close }
+    ensures { (length standings.new ≡ 64) × Parted (SortedAt pairs.now standings.new) asked close result.kept result.other }
+{
+    if pairs.narrow {
+        let sorted = Left {
+            kept: 0,
+            other: close,
+        };
+        return stand_low(pairs, standings, asked, sorted);
+    }
+    let seen = stand_by_estimate(pairs, standings, asked);
+    let sorted = Left {
+        kept: seen.kept,
+        other: close,
+    };
+    stand_exactly(pairs, standings, seen.other, sorted)
+}
