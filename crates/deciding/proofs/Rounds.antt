@@ -20,8 +20,9 @@ use Rattle.words.proofs.BitLaws.{bit_of_none}
 use Rattle.words.proofs.Filling.{both}
 use Rattle.boxes.specs.Triangles.{triangles}
 use Rattle.deciding.specs.declared.places.Pairs.{Pairs}
-use Rattle.deciding.specs.Places.{lined}
-use Rattle.deciding.specs.Stages.{Clear, StandsAt, SeemsAt, Told, Marked, seems_alone, is_open, is_alone, is_within, Parted, SortedAt}
+use Rattle.deciding.specs.declared.verdicts.Stances.{Stances}
+use Rattle.deciding.specs.Places.{lined, Paired}
+use Rattle.deciding.specs.Stages.{Clear, StandsAt, SeemsAt, Told, Marked, seems_alone, is_open, is_alone, is_within, Parted, SortedAt, Numbering, AllNumbered, CrossedAt, AllAlone, AllStood, JudgedAt, Judged}
 
 -- Where a bit is set that was not, its place was asked.
 pub asked_for : {start asked word : ℕ} {Right : ℕ → Bool → Type 0} → Marked Right start asked word → (z : ℕ) → bit z word ≡ true → bit z start ≡ false →
@@ -146,3 +147,104 @@ module _ {p : Pairs} {asked close seen seemed : ℕ} {before between : List ℕ}
               (alone.stays z e ∙ seems.right z set ∙ ap seems_alone (sym same))
               (within.stays z e ∙ clear z set)
 
+-- ---- the verdicts
+-- Pairs that each have a corner alone.
+module _ {s : Stances} {asked : ℕ} (alone : AllAlone s asked) where
+  pub alone_stood : AllStood s asked
+  alone_stood z set = record {
+    second = alone.stands_second z set;
+    near_first = λ e. omega (arith, alone.near_first z set);
+    first = λ r1. alone.stands_first z set;
+    near_second = λ r1 e. omega (arith, alone.near_second z set);
+  }
+
+  pub alone_numbered : AllNumbered s asked
+  alone_numbered z set = ((alone.stands_first z set).number, (alone.stands_second z set).number)
+
+  -- The last signs tell.
+  crossing_judged : (z : ℕ) {kept other : Bool} → bit z asked ≡ true → CrossedAt s z kept other → other ≡ false →
+      JudgedAt s.pairs z kept
+  crossing_judged z set crossed told = record {
+    judges =
+        judged_crossing (lined s.pairs.first z) (lined s.pairs.second z) (alone.stands_first z set) (alone.stands_second z set)
+        (λ e. omega (arith, alone.near_second z set)) (λ e. omega (arith, alone.near_second z set))
+        (λ e. omega (arith, alone.near_first z set)) (λ e. omega (arith, alone.near_first z set))
+        (crossed.told told);
+  }
+
+  -- By the estimate, and exactly where it can't tell and where pairs are close.
+  module _ {close kept other : ℕ} (near : AllStood s close)
+      (parted : Parted (CrossedAt s) asked close kept other) where
+    -- What is left was asked, or is close.
+    pub rest_of : (z : ℕ) → bit z other ≡ true → (bit z asked ≡ true) ⊎ (bit z close ≡ true)
+    rest_of z set = by_bit (bit z asked) refl
+      where
+        by_bit : (b : Bool) → bit z asked ≡ b → (bit z asked ≡ true) ⊎ (bit z close ≡ true)
+        by_bit true e = inl e
+        by_bit false e = inr (sym (parted.other_stays z e) ∙ set)
+
+    pub rest_stood : AllStood s other
+    rest_stood z set = by_case (rest_of z set)
+      where
+        by_case : (bit z asked ≡ true) ⊎ (bit z close ≡ true) → Stood (lined s.pairs.first z) (lined s.pairs.second z) (get_or s.first.now z 0) (get_or s.second.now z 0)
+        by_case (inl e) = alone_stood z e
+        by_case (inr e) = near z e
+
+    pub rest_posed : Numbering s asked → Numbering s close → Numbering s other
+    rest_posed first last = record { first = first.first; second = first.second; posed = λ z set. by_case z (rest_of z set) }
+      where
+        by_case : (z : ℕ) → (bit z asked ≡ true) ⊎ (bit z close ≡ true) → Paired s.pairs z
+        by_case z (inl e) = first.posed z e
+        by_case z (inr e) = last.posed z e
+
+    pub rest_clear : Clear other kept
+    rest_clear z set = by_case (rest_of z set)
+      where
+        by_case : (bit z asked ≡ true) ⊎ (bit z close ≡ true) → bit z kept ≡ false
+        by_case (inl e) = (parted.right z e).not_told set
+        by_case (inr e) = by_bit (bit z asked) refl
+          where
+            by_bit : (b : Bool) → bit z asked ≡ b → bit z kept ≡ false
+            by_bit true e' = (parted.right z e').not_told set
+            by_bit false e' = parted.kept_none z e'
+
+    pub judged_rest : {word : ℕ} → Marked (JudgedAt s.pairs) kept other word → Judged s.pairs asked close word
+    judged_rest {word} marks = record {
+      small = λ n few small. marks.small n (parted.kept_small n few) (parted.other_small n small few);
+      right = right;
+      none = λ z none-asked none-close. marks.stays z (parted.other_stays z none-asked ∙ none-close) ∙ parted.kept_none z none-asked;
+    }
+      where
+        right : (z : ℕ) → (bit z asked ≡ true) ⊎ (bit z close ≡ true) → JudgedAt s.pairs z (bit z word)
+        right z case = by_bit (bit z other) refl case
+          where
+            by_bit : (b : Bool) → bit z other ≡ b → (bit z asked ≡ true) ⊎ (bit z close ≡ true) → JudgedAt s.pairs z (bit z word)
+            by_bit true e one = marks.right z e
+            by_bit false e (inl set) = subst (JudgedAt s.pairs z) (sym (marks.stays z e)) (crossing_judged z set (parted.right z set) e)
+            by_bit false e (inr set) = by_asked (bit z asked) refl
+              where
+                by_asked : (b : Bool) → bit z asked ≡ b → JudgedAt s.pairs z (bit z word)
+                by_asked true e' = subst (JudgedAt s.pairs z) (sym (marks.stays z e)) (crossing_judged z e' (parted.right z e') e)
+                by_asked false e' = both set (sym (parted.other_stays z e') ∙ e)
+
+-- Exactly throughout: the pairs with a corner alone, and then the close ones.
+pub judged_exactly : {p : Pairs} {alone close first word : ℕ} → Clear alone close → Marked (JudgedAt p) 0 alone first →
+    Marked (JudgedAt p) first close word → Judged p alone close word
+judged_exactly {p} {alone} {close} {first} {word} clear one two = record {
+  small = λ n few small. two.small n (one.small n (pow_pos n) few) small;
+  right = right;
+  none = λ z none-alone none-close. two.stays z none-close ∙ one.stays z none-alone ∙ bit_of_none z;
+}
+  where
+    right : (z : ℕ) → (bit z alone ≡ true) ⊎ (bit z close ≡ true) → JudgedAt p z (bit z word)
+    right z (inl set) = subst (JudgedAt p z) (sym (two.stays z (clear z set))) (one.right z set)
+    right z (inr set) = two.right z set
+
+-- The close ones have no bit yet.
+pub close_clear : {p : Pairs} {alone close first : ℕ} → Clear alone close → Marked (JudgedAt p) 0 alone first →
+    Clear close first
+close_clear {alone = alone} {first = first} clear one z set = by_bit (bit z alone) refl
+  where
+    by_bit : (b : Bool) → bit z alone ≡ b → bit z first ≡ false
+    by_bit true e = both set (clear z e)
+    by_bit false e = one.stays z e ∙ bit_of_none z

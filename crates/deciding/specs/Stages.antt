@@ -8,7 +8,8 @@ use Rattle.kernel.specs.Meeting.{Judges}
 use Rattle.kernel.specs.Standings.{StandsTo, SeemsTo, Stood}
 use Rattle.words.specs.Bits.{bit}
 use Rattle.deciding.specs.declared.places.Pairs.{Pairs}
-use Rattle.deciding.specs.Places.{lined}
+use Rattle.deciding.specs.declared.verdicts.Stances.{Stances}
+use Rattle.deciding.specs.Places.{lined, Paired, Posed}
 
 -- No place that is asked is set in the word.
 abbrev pub Clear : (asked word : ℕ) → Type 0
@@ -63,3 +64,53 @@ pub record SortedAt (p : Pairs) (standings : List ℕ) (z : ℕ) (kept other : B
   pub within : other ≡ true → StandsTo (lined p.first z) (lined p.second z) (get_or standings z 0)
   pub close : other ≡ true → get_or standings z 0 ≡ 1
   pub apart : kept ≡ false → other ≡ false → Share 3 (points_at 3 3 0 (lined p.first z)) (points_at 3 3 0 (lined p.second z)) → ⊥
+
+-- ---- the verdicts
+-- The pair of place z, with a number for each standing.
+pub record Faced (s : Stances) (z : ℕ) : Type 0 where
+  pub pair : Paired s.pairs z
+  pub first : z < length s.first.now
+  pub second : z < length s.second.now
+
+-- The pairs of the places that are asked, with 64 numbers for standings.
+pub record Numbering (s : Stances) (asked : ℕ) : Type 0 where
+  pub first : length s.first.now ≡ 64
+  pub second : length s.second.now ≡ 64
+  pub posed : Posed s.pairs asked
+
+-- The numbers of place z, or of all places that are asked, are those of standings.
+abbrev pub NumberedAt : Stances → ℕ → Type 0
+NumberedAt s z = Numbered (get_or s.first.now z 0) × Numbered (get_or s.second.now z 0)
+
+abbrev pub AllNumbered : Stances → (asked : ℕ) → Type 0
+AllNumbered s asked = (z : ℕ) → bit z asked ≡ true → NumberedAt s z
+
+-- The two triangles of place z, whose standings are there by their numbers: one bit says whether the last two signs say that they
+-- meet, unless the other says that this is not told.
+pub record CrossedAt (s : Stances) (z : ℕ) (kept other : Bool) : Type 0 where
+  pub told : other ≡ false → kept ≡ last_signs_by (get_or s.first.now z 0) (get_or s.second.now z 0) (lined s.pairs.first z) (lined s.pairs.second z)
+  pub not_told : other ≡ true → kept ≡ false
+
+-- Each triangle of the pairs that are asked has a corner alone.
+pub record AllAlone (s : Stances) (asked : ℕ) : Type 0 where
+  pub stands_first : (z : ℕ) → bit z asked ≡ true → StandsTo (lined s.pairs.first z) (lined s.pairs.second z) (get_or s.first.now z 0)
+  pub near_second : (z : ℕ) → bit z asked ≡ true → 1 < get_or s.first.now z 0
+  pub stands_second : (z : ℕ) → bit z asked ≡ true → StandsTo (lined s.pairs.second z) (lined s.pairs.first z) (get_or s.second.now z 0)
+  pub near_first : (z : ℕ) → bit z asked ≡ true → 1 < get_or s.second.now z 0
+
+-- The standings of the pair of place z, or of all that are asked, are known as far as a verdict asks for them.
+abbrev pub StoodAt : Stances → ℕ → Type 0
+StoodAt s z = Stood (lined s.pairs.first z) (lined s.pairs.second z) (get_or s.first.now z 0) (get_or s.second.now z 0)
+
+abbrev pub AllStood : Stances → (asked : ℕ) → Type 0
+AllStood s asked = (z : ℕ) → bit z asked ≡ true → StoodAt s z
+
+-- A verdict on the two triangles of place z.
+pub record JudgedAt (p : Pairs) (z : ℕ) (verdict : Bool) : Type 0 where
+  pub judges : Judges 3 3 3 (lined p.first z) (lined p.second z) verdict
+
+-- The verdicts on the pairs that each have a corner alone, and on the close ones. No other bit is set.
+pub record Judged (p : Pairs) (alone close word : ℕ) : Type 0 where
+  pub small : (n : ℕ) → alone < 2 ^ n → close < 2 ^ n → word < 2 ^ n
+  pub right : (z : ℕ) → (bit z alone ≡ true) ⊎ (bit z close ≡ true) → JudgedAt p z (bit z word)
+  pub none : (z : ℕ) → bit z alone ≡ false → bit z close ≡ false → bit z word ≡ false
