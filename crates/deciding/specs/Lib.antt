@@ -2,3 +2,4 @@
 pub mod Words
 pub mod Places
 pub mod Stages
+pub mod Lists
