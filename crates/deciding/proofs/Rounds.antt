@@ -7,18 +7,14 @@ use Prim.Native.Nat.{ℕ, ◌<◌, ◌≤◌}
 use native.Mathlib.Omega.{arith}
 use borrow.Author.Tests.{eqb-true, eqb-false, ltb-true, ltb-false}
 use lib.Dec.{ltb}
-use lib.Ieee.{Float}
-use lib.IntN.{ℤ}
 use lib.ListN.{get_or}
 use lib.Pow.{pow_pos}
 use Rattle.kernel.specs.Standings.{Stood}
 use Rattle.kernel.proofs.Stages.{judged_crossing, beside_apart}
-use Rattle.exact.specs.Grid.{Ready}
 use Rattle.exact.proofs.Branches.{both_true}
 use Rattle.words.specs.Bits.{bit}
 use Rattle.words.proofs.BitLaws.{bit_of_none}
 use Rattle.words.proofs.Filling.{both}
-use Rattle.boxes.specs.Triangles.{triangles}
 use Rattle.deciding.specs.declared.places.Pairs.{Pairs}
 use Rattle.deciding.specs.declared.verdicts.Stances.{Stances}
 use Rattle.deciding.specs.Places.{lined, Paired}

@@ -5,24 +5,22 @@ use mathlib.Core.List.{List}
 use mathlib.Core.Logic.{◌⊎◌, inl, inr}
 use Prim.Native.Nat.{ℕ, zero, suc, ◌+◌, ◌*◌, ◌/◌, ◌^◌, ◌<◌, ◌≤◌}
 use native.Mathlib.Omega.{arith}
-use lib.Ieee.{Float}
 use lib.IntN.{ℤ}
 use lib.ListN.{length, get_or, set}
 use lib.Pow.{pow_pos}
-use lib.Seq.{take_all, get_or-set_same, get_or-set_other}
+use lib.Seq.{get_or-set_same, get_or-set_other}
 use Rattle.algebra.proofs.Copying.{written_hold}
 use Rattle.shape.specs.Points.{points_at}
 use Rattle.shape.specs.Sharing.{Share}
 use Rattle.shape.proofs.Trading.{share_trade}
 use Rattle.shape.proofs.VerdictLaws.{says_no}
 use Rattle.kernel.specs.Meeting.{Judges}
-use Rattle.exact.specs.Vectors.{normal_in, plane_row}
-use Rattle.kernel.specs.Standings.{IsPlane, Stood}
+use Rattle.kernel.specs.Standings.{Stood}
 use Rattle.words.specs.Bits.{bit, ones}
 use Rattle.words.specs.Spans.{first_of, span}
 use Rattle.words.proofs.BitLaws.{bit_of_none, set_within, few_ones}
 use Rattle.words.proofs.Filling.{both}
-use Rattle.boxes.specs.Boxes.{three, Boxed, Known, Prepared, Planned}
+use Rattle.boxes.specs.Boxes.{Boxed, Prepared, Planned}
 use Rattle.boxes.specs.Triangles.{triangles, nine}
 use Rattle.sifting.specs.Tables.{CandidatesBelow}
 use Rattle.sifting.proofs.EndLaws.{boxes_reach}

@@ -1,5 +1,5 @@
 -- The pairs of triangles that the places of a word mean (src/places.rt).
-use Rattle.std.specs.Prelude.{◌≡◌, Bool, true, false, List, ℕ, ◌+◌, ◌*◌, ◌<◌, ◌≤◌, ℤ, length}
+use Rattle.std.specs.Prelude.{◌≡◌, true, false, List, ℕ, ◌+◌, ◌*◌, ◌<◌, ◌≤◌, ℤ, length}
 use Rattle.exact.specs.Grid.{Ready}
 use Rattle.exact.specs.Small.{BothNarrow}
 use Rattle.exact.specs.Vectors.{normal_in}
@@ -7,7 +7,6 @@ use Rattle.kernel.specs.Standings.{IsPlane}
 use Rattle.words.specs.Bits.{bit}
 use Rattle.boxes.specs.Triangles.{triangles, nine}
 use Rattle.boxes.specs.Boxes.{three}
-use Rattle.deciding.specs.declared.places.Bed.{Bed}
 use Rattle.deciding.specs.declared.places.Row.{Row}
 use Rattle.deciding.specs.declared.places.Pairs.{Pairs}
 

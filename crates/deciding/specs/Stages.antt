@@ -1,6 +1,6 @@
 -- The vocabulary of the stages in which a word of candidates is decided (src/standings.rt and src/verdicts.rt). A stage goes over the places that are set in a word; for each
 -- it looks at one triangle of each of two lists, and it leaves a number or a bit there.
-use Rattle.std.specs.Prelude.{◌≡◌, Bool, true, false, ◌&&◌, ◌||◌, List, ◌⊎◌, ℕ, ◌+◌, ◌*◌, ◌^◌, ◌<◌, ◌≤◌, eqb, ltb, ℤ, length, get_or}
+use Rattle.std.specs.Prelude.{◌≡◌, Bool, true, false, ◌&&◌, ◌||◌, List, ◌⊎◌, ℕ, ◌^◌, ◌<◌, eqb, ltb, length, get_or}
 use Rattle.shape.specs.Points.{points_at}
 use Rattle.shape.specs.Sharing.{Share}
 use Rattle.space.specs.Spaces.{Numbered, last_signs_by}

@@ -1,5 +1,4 @@
 -- `deciding::deciding::decide_word_of` meets its contract: the triangles, normals and planes are those of word k. Assumes nothing.
-use native.Mathlib.Omega.{arith}
 use Rattle.deciding.proofs.WordLaws.{none_decided, word_posed, word_decided}
 use Rattle.deciding.proofs.deciding.decide_word_of.Goals as goal
 
