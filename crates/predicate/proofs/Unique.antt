@@ -8,6 +8,7 @@ use lib.IntN.{ℤ, pos, negsuc}
 use Rattle.std.specs.Prelude.{Result, Ok, Err}
 use Rattle.checks.specs.Answers.{Answer, served, refused}
 use Rattle.checks.proofs.AnswerLaws.{one_verdict, served_not_refused}
+use Rattle.checks.proofs.ReadBack.{refusal_back, refusal_back_law}
 use Rattle.predicate.specs.Rules.{value_rule, sign_rule, VerdictRule}
 use Rattle.checks.specs.Rules.{FlatShapes, pair_checks}
 use Rattle.exact.specs.SignNumbers.{sign_number}
@@ -34,26 +35,23 @@ sign_back_law Zero = refl
 sign_back_law Positive = refl
 
 -- ---- each answer is read back off what it tells
-refusal_back : ℕ → ℕ → ℕ → Refusal
-refusal_back number side place = record { number = number; side = side; place = place }
-
 sign_answer_back : Answer ℤ → Result Sign Refusal
 sign_answer_back (served z) = Ok (sign_back z)
 sign_answer_back (refused number side place) = Err (refusal_back number side place)
 
 sign_answer_back_law : (r : Result Sign Refusal) → sign_answer_back (told_sign r) ≡ r
-unfolding sign_answer_back refusal_back
+unfolding sign_answer_back
 sign_answer_back_law (Ok a) = ap Ok (sign_back_law a)
-sign_answer_back_law (Err why) = refl
+sign_answer_back_law (Err why) = ap Err (refusal_back_law why)
 
 value_back : Answer ℤ → Result ℤ Refusal
 value_back (served z) = Ok z
 value_back (refused number side place) = Err (refusal_back number side place)
 
 value_back_law : (r : Result ℤ Refusal) → value_back (told_value r) ≡ r
-unfolding value_back refusal_back
+unfolding value_back
 value_back_law (Ok z) = refl
-value_back_law (Err why) = refl
+value_back_law (Err why) = ap Err (refusal_back_law why)
 
 verdict_back : Answer Bool → Result Verdict Refusal
 verdict_back (served true) = Ok Meeting
@@ -61,10 +59,10 @@ verdict_back (served false) = Ok Apart
 verdict_back (refused number side place) = Err (refusal_back number side place)
 
 verdict_back_law : (r : Result Verdict Refusal) → verdict_back (told_verdict r) ≡ r
-unfolding verdict_back refusal_back
+unfolding verdict_back
 verdict_back_law (Ok Meeting) = refl
 verdict_back_law (Ok Apart) = refl
-verdict_back_law (Err why) = refl
+verdict_back_law (Err why) = ap Err (refusal_back_law why)
 
 -- So two answers that tell the same are equal.
 told_fixed : {A R : Type 0} (told : R → A) (back : A → R) → ((r : R) → back (told r) ≡ r) → (r s : R) → told r ≡ told s → r ≡ s
@@ -80,11 +78,11 @@ refusal_of (served z) = Err (refusal_back 0 0 0)
 refusal_of (refused number side place) = Err (refusal_back number side place)
 
 wide_told : (r s : Result Wide Refusal) → LowWord r → LowWord s → told_wide r ≡ told_wide s → r ≡ s
-unfolding served_of refusal_of refusal_back
+unfolding served_of refusal_of
 wide_told (Ok a) (Ok b) l m e = ap Ok (told_by_value a b l m (ap served_of e))
 wide_told (Ok a) (Err why) l m e = absurd (served_not_refused (value a) why e)
 wide_told (Err why) (Ok b) l m e = absurd (served_not_refused (value b) why (sym e))
-wide_told (Err why) (Err why') l m e = ap refusal_of e
+wide_told (Err why) (Err why') l m e = ap Err (sym (refusal_back_law why)) ∙ ap refusal_of e ∙ ap Err (refusal_back_law why')
 
 -- ---- no second answer
 -- Two answers that meet the contract of `turn_sign` (n = 2) or of `side_sign` (n = 3) are equal.
