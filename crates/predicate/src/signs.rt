@@ -38,12 +38,12 @@ pub fn side_value(points: &[i32]) -> Result<Wide, Refusal>
 pub fn turn_sign(points: &[i32]) -> Result<Sign, Refusal>
     ensures { told_sign result ≡ sign_rule 2 points.now }
 {
-    turn_value(points).map(sign_of)
+    Ok(sign_of(turn_value(points)?))
 }
 
 // The spatial side sign.
 pub fn side_sign(points: &[i32]) -> Result<Sign, Refusal>
     ensures { told_sign result ≡ sign_rule 3 points.now }
 {
-    side_value(points).map(wide_sign_of)
+    Ok(wide_sign_of(side_value(points)?))
 }
