@@ -61,7 +61,7 @@ impl Coded for () {
 }
 
 // The four numbers of an answer.
-pub fn numbers_of<T: Coded + Copy>(told: Result<T, Refusal>) -> Numbers
+pub fn numbers_of<T: Coded>(told: Result<T, Refusal>) -> Numbers
     ensures { listed result ≡ four_numbers (told_by T.code told) }
 {
     match told {
