@@ -6,8 +6,9 @@ ghost use Rattle.checks.specs.Told.{told_check};
 ghost use Rattle.slots.specs.Slots.{Slot};
 ghost use Rattle.slots.specs.Arrays.{mark_of};
 ghost use Rattle.slots.specs.Changes.{thrice};
+ghost use Rattle.slots.specs.Showing.{Shown};
 ghost use Rattle.reasons.specs.Findings.{PlaceFound, LiftFound, ShiftFound, undo_found};
-ghost use Rattle.reasons.specs.Rules.{slot_within, part_within, part_present};
+ghost use Rattle.reasons.specs.Rules.{slot_within, part_within, slot_free, slot_filled, part_present, part_stays};
 
 use checks::{Reason, Refusal, length_checked, shape_checked};
 use kernel::Kind;
@@ -33,15 +34,48 @@ pub fn part_checked(side: u32, part: usize) -> Result<(), Refusal>
     Ok(())
 }
 
+// Refusal 8.
+fn free_checked(slots: &Slots, slot: usize) -> Result<(), Refusal>
+    requires { slot ≤ 63 }
+    ensures { (S : List Slot) → slots.now.marks ≡ map mark_of S → told_check result ≡ slot_free S slot }
+{
+    if slots.marks[slot] != 0 {
+        return Err(Refusal::new(Reason::SlotFilled, 0, slot));
+    }
+    Ok(())
+}
+
+// Refusal 9.
+fn filled_checked(slots: &Slots, slot: usize) -> Result<(), Refusal>
+    requires { slot ≤ 63 }
+    ensures { (S : List Slot) → slots.now.marks ≡ map mark_of S → told_check result ≡ slot_filled S slot }
+{
+    if slots.marks[slot] == 0 {
+        return Err(Refusal::new(Reason::SlotEmpty, 0, slot));
+    }
+    Ok(())
+}
+
 // Refusal 10.
 pub fn present_checked(side: u32, slots: &Slots, part: usize) -> Result<(), Refusal>
     requires { part ≤ 15 }
     ensures { (S : List Slot) → slots.now.marks ≡ map mark_of S → told_check result ≡ part_present side S part }
 {
-    if slots.has_mark((part + 1) as u8) {
-        return Ok(());
+    if !slots.has_mark((part + 1) as u8) {
+        return Err(Refusal::new(Reason::PartAbsent, side, part));
     }
-    Err(Refusal::new(Reason::PartAbsent, side, part))
+    Ok(())
+}
+
+// Refusal 11.
+fn stays_checked(slots: &Slots, part: usize, by: &[i32; 9]) -> Result<(), Refusal>
+    requires { part ≤ 15 }
+    ensures { (S : List Slot) → Shown S slots.now.coords slots.now.marks → told_check result ≡ part_stays S part by.now }
+{
+    match slots.lowest_leaving((part + 1) as u8, by) {
+        Some(slot) => Err(Refusal::new(Reason::LeavesGrid, 0, slot)),
+        None => Ok(()),
+    }
 }
 
 // Refusals 6, 7, 3, 1 and 2 of a place, in this order.
@@ -64,10 +98,7 @@ pub fn place_checked(
     ensures { PlaceFound slots.now.marks slot part triangle.now (told_check result) }
 {
     placing_checked(slot, part, triangle)?;
-    if slots.marks[slot] != 0 {
-        return Err(Refusal::new(Reason::SlotFilled, 0, slot));
-    }
-    Ok(())
+    free_checked(slots, slot)
 }
 
 // Refusals 6 and 9 of a lift, in this order.
@@ -75,10 +106,7 @@ pub fn lift_checked(slots: &Slots, slot: usize) -> Result<(), Refusal>
     ensures { LiftFound slots.now.marks slot (told_check result) }
 {
     slot_checked(slot)?;
-    if slots.marks[slot] == 0 {
-        return Err(Refusal::new(Reason::SlotEmpty, 0, slot));
-    }
-    Ok(())
+    filled_checked(slots, slot)
 }
 
 // The steps of the nine numbers of a triangle.
@@ -94,11 +122,7 @@ pub fn shift_checked(slots: &Slots, part: usize, dx: i32, dy: i32, dz: i32) -> R
 {
     part_checked(0, part)?;
     present_checked(0, slots, part)?;
-    let leaving = slots.lowest_leaving((part + 1) as u8, &thrice(dx, dy, dz));
-    if leaving < 64 {
-        return Err(Refusal::new(Reason::LeavesGrid, 0, leaving));
-    }
-    Ok(())
+    stays_checked(slots, part, &thrice(dx, dy, dz))
 }
 
 // Refusal 12 of an undo.
