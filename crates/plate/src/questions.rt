@@ -1,22 +1,26 @@
 // The questions: count, reach and parts. They leave the plate as it is.
-ghost use Rattle.std.specs.Prelude.{◌≡◌, true, List, map, suc, ◌≤◌};
+ghost use Rattle.std.specs.Prelude.{◌≡◌, true, cond, List, suc, ◌≤◌};
+ghost use Rattle.shape.specs.InsideTest.{corner_in};
+ghost use Rattle.shape.specs.TriangleLists.{triangles_in};
+ghost use Rattle.exact.specs.Grid.{Ready};
 ghost use Rattle.checks.specs.Answers.{served, ◌then◌};
-ghost use Rattle.checks.specs.Grid.{all_on};
+ghost use Rattle.checks.specs.Told.{told_check};
 ghost use Rattle.predicate.specs.Told.{told_verdict};
 ghost use Rattle.slots.specs.Slots.{Slot};
+ghost use Rattle.slots.specs.Parts.{triangles_of};
 ghost use Rattle.slots.specs.Counting.{marks_strike};
 ghost use Rattle.slots.specs.Showing.{Shown};
-ghost use Rattle.reasons.specs.Rules.{shell_checks};
+ghost use Rattle.reasons.specs.Rules.{shell_closed, shell_checks};
 ghost use Rattle.plate.specs.Deciding.{either_in};
 ghost use Rattle.plate.specs.Plates.{CountPromise, present_answer, PartsPromise};
 
-use checks::{Reason, Refusal, all_on};
+use checks::{Reason, Refusal};
 use inside::corner_inside;
 use keeping::Plate;
 use predicate::Verdict;
 use reasons::{part_checked, present_checked};
 use shells::is_open;
-use slots::Slots;
+use slots::{OnGrid, Slots};
 
 // How many pairs of slots clash. It is read, not counted.
 pub fn count(plate: Plate) -> u32
@@ -32,26 +36,37 @@ pub fn reach(plate: Plate) -> usize
     plate.reach
 }
 
+// Refusal 16, of the triangles of a part.
+fn closed_checked(side: u32, part: usize, shell: &[i32; 576], many: usize) -> Result<(), Refusal>
+    requires { many ≤ 64 }
+    ensures { (S : List Slot) → triangles_in many shell.now ≡ triangles_of part S → told_check result ≡ shell_closed side S part }
+{
+    if is_open(shell, many) {
+        return Err(Refusal::new(Reason::ShellOpen, side, part));
+    }
+    Ok(())
+}
+
+// Whether some corner of one shell is inside the other.
+fn either_inside(first: &[i32; 576], m: usize, second: &[i32; 576], n: usize) -> bool
+    requires { Ready 576 first.now × (m ≤ 64) × Ready 576 second.now × (n ≤ 64) }
+    ensures { result ≡ cond (corner_in (triangles_in m first.now) (triangles_in n second.now)) true (corner_in (triangles_in n second.now) (triangles_in m first.now)) }
+{
+    corner_inside(first, m, second, n) || corner_inside(second, n, first, m)
+}
+
 // The verdict on two parts whose skins don't meet: whether their shells are closed, and then their corners.
-fn shells_verdict(slots: &Slots, p: usize, q: usize) -> Result<Verdict, Refusal>
-    requires { (all_on slots.now.coords ≡ true) × (p ≤ 15) × (q ≤ 15) }
-    ensures { (S : List Slot) → Shown S slots.now.coords slots.now.marks → told_verdict result ≡ (shell_checks S p q then served (either_in S p q)) }
+fn shells_verdict(slots: OnGrid<'_>, p: usize, q: usize) -> Result<Verdict, Refusal>
+    requires { (p ≤ 15) × (q ≤ 15) }
+    ensures { (S : List Slot) → Shown S slots.entry.slots.now.coords slots.entry.slots.now.marks → told_verdict result ≡ (shell_checks S p q then served (either_in S p q)) }
 {
     let mut first = [0; 576];
     let mut second = [0; 576];
     let m = slots.gather_part((p + 1) as u8, &mut first);
     let n = slots.gather_part((q + 1) as u8, &mut second);
-    let first = &first[..9 * m];
-    let second = &second[..9 * n];
-    if is_open(first) {
-        return Err(Refusal::new(Reason::ShellOpen, 0, p));
-    }
-    if is_open(second) {
-        return Err(Refusal::new(Reason::ShellOpen, 1, q));
-    }
-    Ok(Verdict::from(
-        corner_inside(first, second) || corner_inside(second, first),
-    ))
+    closed_checked(0, p, &first, m)?;
+    closed_checked(1, q, &second, n)?;
+    Ok(Verdict::from(either_inside(&first, m, &second, n)))
 }
 
 // The verdict on two parts that are present. On no plate that calls made is a coordinate off the grid.
@@ -65,10 +80,10 @@ fn present_verdict(slots: &Slots, p: usize, q: usize) -> Result<Verdict, Refusal
     if slots.marks_strike((p + 1) as u8, (q + 1) as u8) {
         return Ok(Verdict::Meeting);
     }
-    if all_on(&slots.coords) {
-        return shells_verdict(slots, p, q);
+    match slots.on_grid() {
+        Some(on) => shells_verdict(on, p, q),
+        None => Ok(Verdict::Apart),
     }
-    Ok(Verdict::Apart)
 }
 
 // Whether two parts clash.

@@ -11,7 +11,7 @@ fn room_for(calls: usize, numbers: usize, answers: usize) -> usize
     (calls / 3).min((numbers / 9).min(answers / 6))
 }
 
-// The run. Gives how many calls were done.
+// The run. Gives how many calls were done. The loop counts: of what `chunks_exact_mut` lends only the length is known once it is written.
 pub fn run_calls(calls: &[u32], numbers: &[i32], answers: &mut [u64]) -> u64
     ensures { PlateRun calls.now numbers.now answers.old result answers.new }
 {
