@@ -1,22 +1,26 @@
 -- What the parts call promises, one law for each way out of its code: the marks of a plate tell which parts are present, and what code finds of two that
 -- are is what their skins, their shells and their corners say. Assumes nothing.
-use mathlib.Core.Path.{◌≡◌, refl, sym, ap, ◌∙◌}
+use mathlib.Core.Path.{◌≡◌, refl, ap, ◌∙◌}
 use mathlib.Core.Bool.{Bool, true, false, not, cond}
 use mathlib.Core.List.{List}
-use Prim.Native.Nat.{ℕ, suc, ◌+◌, ◌<◌, ◌≤◌}
-use borrow.Author.Tests.{lt-ltb, le-ltb}
+use Prim.Native.Nat.{ℕ, suc, ◌*◌, ◌/◌, ◌≤◌}
+use native.Mathlib.Omega.{arith}
+use lib.IntN.{ℤ}
+use lib.ListN.{length, take}
 use Rattle.shape.specs.Verdicts.{Says}
 use Rattle.shape.specs.Points.{Shape}
 use Rattle.shape.specs.Shells.{is_closed}
-use Rattle.shape.specs.InsideTest.{corner_in}
+use Rattle.shape.specs.TriangleLists.{triangles_in}
+use Rattle.shape.proofs.TriangleLists.{front_triangles}
 use Rattle.shape.proofs.VerdictLaws.{says_either}
-use Rattle.exact.proofs.Branches.{if_taken, if_left}
+use Rattle.exact.specs.Grid.{limit}
+use Rattle.exact.specs.Sizes.{OnGrid}
+use Rattle.exact.proofs.GridLaws.{small_taken}
 use Rattle.checks.specs.Answers.{Answer, served, refused, Check, fine, ◌then◌}
 use Rattle.slots.specs.Slots.{Slot}
 use Rattle.slots.specs.Parts.{triangles_of, EitherInside}
-use Rattle.shape.specs.Lists.{some}
-use Rattle.slots.specs.Counting.{has_mark, marks_strike}
-use Rattle.slots.specs.Showing.{Shown}
+use Rattle.slots.specs.Counting.{marks_strike}
+use Rattle.slots.specs.Showing.{Shown, Gathered}
 use Rattle.slots.proofs.Clashing.{skins_say}
 use Rattle.slots.proofs.Swallowed.{corner_says}
 use Rattle.keeping.specs.declared.plates.Plate.{Plate}
@@ -58,6 +62,17 @@ shell_found side S r {Rs} is e t = t ∙ ap (λ (b : Bool). cond b (refused 16 s
     turned : (b : Bool) → cond (not b) (refused 16 side r) fine ≡ cond b fine (refused 16 side r)
     turned true = refl
     turned false = refl
+
+-- The triangles of a part as code has gathered them, and the front of the list that has them and no others.
+module _ {coords : List ℤ} {marks : List ℕ} {mark many : ℕ} {l : List ℤ} (g : Gathered coords marks mark l many) where
+  enough : 9 * many ≤ length l
+  enough = omega (arith, g.most, g.ready.long)
+
+  pub front_gathered : (S : List Slot) (q : ℕ) → Shown S coords marks → mark ≡ suc q → triangles_in (length (take (9 * many) l) / 9) (take (9 * many) l) ≡ triangles_of q S
+  front_gathered S q h e = front_triangles many l enough ∙ g.is S q h e
+
+  pub front_on_grid : OnGrid (take (9 * many) l)
+  front_on_grid = record { each = small_taken limit (9 * many) l g.ready.each }
 
 -- By what each check of the shells finds.
 pub by_shells : (S : List Slot) (p q : ℕ) {told : Answer Bool} {a b : Check} → a ≡ shell_closed 0 S p → b ≡ shell_closed 1 S q →

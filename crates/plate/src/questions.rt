@@ -1,8 +1,7 @@
 // The questions: count, reach and parts. They leave the plate as it is.
-ghost use Rattle.std.specs.Prelude.{◌≡◌, true, cond, List, suc, ◌≤◌};
-ghost use Rattle.shape.specs.InsideTest.{corner_in};
+ghost use Rattle.std.specs.Prelude.{◌≡◌, List, suc, ◌/◌, ◌≤◌, length};
 ghost use Rattle.shape.specs.TriangleLists.{triangles_in};
-ghost use Rattle.exact.specs.Grid.{Ready};
+ghost use Rattle.exact.specs.Sizes.{OnGrid};
 ghost use Rattle.checks.specs.Answers.{served, ◌then◌};
 ghost use Rattle.checks.specs.Told.{told_check};
 ghost use Rattle.predicate.specs.Told.{told_verdict};
@@ -11,7 +10,7 @@ ghost use Rattle.slots.specs.Parts.{triangles_of};
 ghost use Rattle.slots.specs.Counting.{marks_strike};
 ghost use Rattle.slots.specs.Showing.{Shown};
 ghost use Rattle.reasons.specs.Rules.{shell_closed, shell_checks};
-ghost use Rattle.plate.specs.Deciding.{either_in};
+ghost use Rattle.plate.specs.Deciding.{either_inside, either_in};
 ghost use Rattle.plate.specs.Plates.{CountPromise, present_answer, PartsPromise};
 
 use checks::{Reason, Refusal};
@@ -37,22 +36,21 @@ pub fn reach(plate: Plate) -> usize
 }
 
 // Refusal 16, of the triangles of a part.
-fn closed_checked(side: u32, part: usize, shell: &[i32; 576], many: usize) -> Result<(), Refusal>
-    requires { many ≤ 64 }
-    ensures { (S : List Slot) → triangles_in many shell.now ≡ triangles_of part S → told_check result ≡ shell_closed side S part }
+fn closed_checked(side: u32, part: usize, shell: &[i32]) -> Result<(), Refusal>
+    ensures { (S : List Slot) → triangles_in (length shell.now / 9) shell.now ≡ triangles_of part S → told_check result ≡ shell_closed side S part }
 {
-    if is_open(shell, many) {
+    if is_open(shell) {
         return Err(Refusal::new(Reason::ShellOpen, side, part));
     }
     Ok(())
 }
 
 // Whether some corner of one shell is inside the other.
-fn either_inside(first: &[i32; 576], m: usize, second: &[i32; 576], n: usize) -> bool
-    requires { Ready 576 first.now × (m ≤ 64) × Ready 576 second.now × (n ≤ 64) }
-    ensures { result ≡ cond (corner_in (triangles_in m first.now) (triangles_in n second.now)) true (corner_in (triangles_in n second.now) (triangles_in m first.now)) }
+fn either_inside(first: &[i32], second: &[i32]) -> bool
+    requires { OnGrid first.now × OnGrid second.now }
+    ensures { result ≡ either_inside (triangles_in (length first.now / 9) first.now) (triangles_in (length second.now / 9) second.now) }
 {
-    corner_inside(first, m, second, n) || corner_inside(second, n, first, m)
+    corner_inside(first, second) || corner_inside(second, first)
 }
 
 // The verdict on two parts whose skins don't meet: whether their shells are closed, and then their corners.
@@ -64,9 +62,11 @@ fn shells_verdict(slots: OnGrid<'_>, p: usize, q: usize) -> Result<Verdict, Refu
     let mut second = [0; 576];
     let m = slots.gather_part((p + 1) as u8, &mut first);
     let n = slots.gather_part((q + 1) as u8, &mut second);
-    closed_checked(0, p, &first, m)?;
-    closed_checked(1, q, &second, n)?;
-    Ok(Verdict::from(either_inside(&first, m, &second, n)))
+    let first = &first[..9 * m];
+    let second = &second[..9 * n];
+    closed_checked(0, p, first)?;
+    closed_checked(1, q, second)?;
+    Ok(Verdict::from(either_inside(first, second)))
 }
 
 // The verdict on two parts that are present. On no plate that calls made is a coordinate off the grid.

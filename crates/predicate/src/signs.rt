@@ -7,7 +7,7 @@ ghost use Rattle.predicate.specs.Rules.{value_rule, sign_rule};
 ghost use Rattle.predicate.specs.Told.{told_value, told_wide, LowWord, told_sign};
 
 use checks::{Refusal, grid_checked, length_checked};
-use exact::{Sign, side_of, sign_of, turn_of, wide_sign_of};
+use exact::{Sign, side_of, turn_of};
 use wide::Wide;
 
 // The refusals of a sign call: 3, then 1.
@@ -38,12 +38,12 @@ pub fn side_value(points: &[i32]) -> Result<Wide, Refusal>
 pub fn turn_sign(points: &[i32]) -> Result<Sign, Refusal>
     ensures { told_sign result ≡ sign_rule 2 points.now }
 {
-    Ok(sign_of(turn_value(points)?))
+    Ok(Sign::from(turn_value(points)?))
 }
 
 // The spatial side sign.
 pub fn side_sign(points: &[i32]) -> Result<Sign, Refusal>
     ensures { told_sign result ≡ sign_rule 3 points.now }
 {
-    Ok(wide_sign_of(side_value(points)?))
+    Ok(Sign::from(side_value(points)?))
 }
