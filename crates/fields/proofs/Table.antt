@@ -1,5 +1,5 @@
 -- What the bytes that are left of a sheet begin with, exactly in the case that document 02 states for it: `HeadCase` is the table, `head_exactly`
--- the theorem. Behind it stands what follows of a whole field and of a broken one. Assumes nothing.
+-- the theorem. Behind it stands what follows of a whole field. Assumes nothing.
 use mathlib.Core.Path.{◌≡◌, refl, sym, ◌∙◌, subst, subst₂}
 use mathlib.Core.Bool.{Bool, true, false, cond, true≢false}
 use mathlib.Core.List.{List}
