@@ -35,3 +35,13 @@ pub fn numbers_at(bytes: &[u8], at: usize, numbers: &mut [i32])
         *number = number_at(bytes, at + 4 * k);
     }
 }
+
+// The same of as many numbers as an array has.
+pub fn array_at<const N: usize>(bytes: &[u8], at: usize) -> [i32; N]
+    requires { at + 4 * N ≤ length bytes.now }
+    ensures { result ≡ numbers_in N (drop at bytes.now) }
+{
+    let mut numbers = [0; N];
+    numbers_at(bytes, at, &mut numbers);
+    numbers
+}
