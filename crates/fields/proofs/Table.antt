@@ -1,5 +1,5 @@
 -- What the bytes that are left of a sheet begin with, exactly in the case that document 02 states for it: `HeadCase` is the table, `head_exactly`
--- the theorem. Behind it stands what follows of a whole field. Assumes nothing.
+-- the theorem. Behind it stands what follows of a whole field and of a broken one. Assumes nothing.
 use mathlib.Core.Path.{◌≡◌, refl, sym, ◌∙◌, subst, subst₂}
 use mathlib.Core.Bool.{Bool, true, false, cond, true≢false}
 use mathlib.Core.List.{List}
@@ -123,14 +123,18 @@ pub record WholeField (rest : List ℕ) (field : Field) : Type 0 where
 abbrev Known : List ℕ → Result (Option Field) Reason → Type 0
 Known rest (Ok (Some field)) = WholeField rest field
 Known rest (Ok None) = Unit {0}
-Known rest (Err why) = Unit {0}
+Known rest (Err why) = 0 < length rest
 
 known : {rest : List ℕ} {h : Result (Option Field) Reason} → HeadCase rest h → Known rest h
 known (none_left e) = tt
-known (header_ends some few) = tt
-known (misfit header never) = tt
-known (body_ends header fits few) = tt
+known (header_ends some few) = some
+known (misfit header never) = omega (arith, header)
+known (body_ends header fits few) = omega (arith, header)
 known (all_there header fits room) = record { number = number_law fits; fits = length_law fits; room = room }
 
 pub whole_field : (rest : List ℕ) {field : Field} → head_of rest ≡ Ok (Some field) → WholeField rest field
 whole_field rest e = known ((head_exactly rest).1 e)
+
+-- ---- a broken one is not nothing
+pub broken_field : (rest : List ℕ) {why : Reason} → head_of rest ≡ Err why → 0 < length rest
+broken_field rest e = known ((head_exactly rest).1 e)
