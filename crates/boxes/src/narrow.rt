@@ -19,12 +19,8 @@ pub fn is_narrow(numbers: &[i32]) -> bool
     ensures { Says result (Narrow numbers.now) }
 {
     let mut narrow = true;
-    let mut i: usize = 0;
-    while i < numbers.len() {
-        if !is_small(numbers[i]) {
-            narrow = false;
-        }
-        i += 1;
+    for x in numbers {
+        narrow &= is_small(*x);
     }
     narrow
 }

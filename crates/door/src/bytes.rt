@@ -15,10 +15,7 @@ fn verdict_number(first: &[i32], second: &[i32]) -> u32
     if !all_on(first) || !all_on(second) {
         return 101;
     }
-    if triangles_meet(first, second) {
-        return 1;
-    }
-    0
+    u32::from(triangles_meet(first, second))
 }
 
 // Two triangles in space, 36 bytes each: nine numbers, low byte first. Gives 0 apart, 1 meeting, or 100 plus the number of the refusal.
@@ -29,8 +26,8 @@ pub fn zg_pair_bytes(a: &[u8], b: &[u8]) -> u32
         return 103;
     }
     let mut first = [0i32; 9];
-    numbers_at(a, 0, &mut first[..]);
+    numbers_at(a, 0, &mut first);
     let mut second = [0i32; 9];
-    numbers_at(b, 0, &mut second[..]);
-    verdict_number(&first[..], &second[..])
+    numbers_at(b, 0, &mut second);
+    verdict_number(&first, &second)
 }

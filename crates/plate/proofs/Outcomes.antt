@@ -49,10 +49,6 @@ standing h p s = record {
   journal = s.journal;
 }
 
--- Its marks tell which parts are present. The mark of a part is one more than its number.
-pub present : (q : ℕ) {h : History} {p : Plate} → Stands h p → some (has_mark (q + 1)) p.parts ≡ some (is_of q) (slots_of h)
-present q {h} s = (λ i. some (has_mark (add-one q i)) (s.parts i)) ∙ some_mark q (slots_of h)
-
 -- ---- a call refused, and a change made
 pub refusal : {o : Answer History} {p : Plate} (r : PlateAnswer) {n s k : ℕ} → o ≡ refused n s k → told_check r.told ≡ refused n s k →
     r.plate ≡ p → Answered o p r
@@ -102,7 +98,7 @@ undo_ahead k e none = never_fine e (ap undo_found none)
 
 -- The plate with its journal's latest entry taken out.
 abbrev popped : Plate → List Entry → Plate
-popped p j = record { coords = p.coords; parts = p.parts; journal = j; reach = p.reach - 1; count = p.count }
+popped p j = record { slots = p.slots; journal = j; reach = p.reach - 1; count = p.count }
 
 -- What that entry keeps, put back, gives the history before its latest change.
 undone : (past : List Change) (n : ℕ) (p : Plate) (j : List Entry) (r : PlateAnswer) →

@@ -11,8 +11,8 @@ use Rattle.answering.proofs.Small.{small_count, small_number}
 use Rattle.answering.proofs.SheetLaws.{call_told}
 use Rattle.answering.proofs.answer.apply_field.Goals as goal
 
-pub put_line-next-requires : goal.put_line-next-requires
-put_line-next-requires c =
+pub put_line-end-requires : goal.put_line-end-requires
+put_line-end-requires c =
     let st = c.requires.0 in
     -- What the call told.
     let t = call_told c.apply-answer.result c.apply-answer.ensures st.calls st.stands in
@@ -31,7 +31,7 @@ returns c =
           let is = c.number_of.ensures ∙ t.0 in
           record {
             stands = t.1;
-            place = c.put_line-next.ensures.0 ∙ ap (λ (k : ℕ). c.args.end + length (line_of k c.apply-answer.result.plate.count)) is;
-            is = c.put_line-next.ensures.1 ∙ ap (λ (k : ℕ). laid c.args.out.now c.args.end (line_of k c.apply-answer.result.plate.count)) is;
+            place = c.put_line-end.ensures.0 ∙ ap (λ (k : ℕ). c.args.end + length (line_of k c.apply-answer.result.plate.count)) is;
+            is = c.put_line-end.ensures.1 ∙ ap (λ (k : ℕ). laid c.args.out.now c.args.end (line_of k c.apply-answer.result.plate.count)) is;
           };
     }

@@ -6,20 +6,30 @@ use Rattle.exact.proofs.determinant.row_of.Goals as goal
 
 pub overflow_sub-result : goal.overflow_sub-result
 overflow_sub-result c =
-    let p = c.requires in
-    in_range (gap p.0 p.1 0) tt
+    let a = c.args.a.on_grid in
+    let d = c.args.d.on_grid in
+    in_range (gap a d 0) tt
 
 pub overflow_sub-result-2 : goal.overflow_sub-result-2
 overflow_sub-result-2 c =
-    let p = c.requires in
-    in_range (gap p.0 p.1 1) tt
+    let a = c.args.a.on_grid in
+    let d = c.args.d.on_grid in
+    in_range (gap a d 1) tt
 
 pub overflow_sub-result-3 : goal.overflow_sub-result-3
 overflow_sub-result-3 c =
-    let p = c.requires in
-    in_range (gap p.0 p.1 2) tt
+    let a = c.args.a.on_grid in
+    let d = c.args.d.on_grid in
+    in_range (gap a d 2) tt
+
+pub invariant_of-result : goal.invariant_of-result
+invariant_of-result c =
+    let a = c.args.a.on_grid in
+    let d = c.args.d.on_grid in
+    record { of_grid = (vector (stored_gap_law a d 0) (stored_gap_law a d 1) (stored_gap_law a d 2)).1 }
 
 pub returns : goal.returns
 returns c =
-    let p = c.requires in
-    vector (stored_gap_law p.0 p.1 0) (stored_gap_law p.0 p.1 1) (stored_gap_law p.0 p.1 2)
+    let a = c.args.a.on_grid in
+    let d = c.args.d.on_grid in
+    (vector (stored_gap_law a d 0) (stored_gap_law a d 1) (stored_gap_law a d 2)).0

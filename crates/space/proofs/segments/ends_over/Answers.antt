@@ -1,18 +1,8 @@
 -- `space::segments::ends_over` meets its contract: the points are those of the lists. Assumes nothing.
 use mathlib.Core.Path.{◌∙◌}
-use Rattle.exact.proofs.GridLaws.{sized_point}
 use Rattle.space.specs.Spaces.{ends_over}
-use Rattle.space.proofs.SpaceLaws.{sized_triangle}
 use Rattle.space.proofs.SegmentLaws.{segment_at}
 use Rattle.space.proofs.segments.ends_over.Goals as goal
-
-pub levels_of_ends-requires : goal.levels_of_ends-requires
-levels_of_ends-requires c =
-    let ready = c.requires in (
-      sized_point ready.0 3 0 c.space_point.ensures,
-      sized_point ready.0 3 3 c.space_point-2.ensures,
-      sized_triangle ready.1 c.space_triangle.ensures,
-    )
 
 pub returns : goal.returns
 returns c =

@@ -32,11 +32,11 @@ overflow_sub-result c = bit≤ (c.is_sure.result && c.is_sure-2.result && c.is_s
 
 pub returns : goal.returns
 returns c =
-    let t = c.requires.0 in
-    let u = c.requires.1 in
+    let t = c.args.t in
+    let u = c.args.u in
     let a = c.rough_of-a.ensures in
     rw (c.sure_level.ensures, c.sure_level-2.ensures, c.sure_level-3.ensures, c.is_sure.ensures, c.is_sure-2.ensures, c.is_sure-3.ensures)
     (guessed
-    (estimate_told u.at_p u.at_q u.at_r t.at_p c.requires.2 a c.rough_of.ensures c.estimate_of-x.ensures)
-    (estimate_told u.at_p u.at_q u.at_r t.at_q c.requires.2 a c.rough_of-2.ensures c.estimate_of-y.ensures)
-    (estimate_told u.at_p u.at_q u.at_r t.at_r c.requires.2 a c.rough_of-3.ensures c.estimate_of-z.ensures))
+    (estimate_told u.p.on_grid u.q.on_grid u.r.on_grid t.p.on_grid c.requires a c.rough_of.ensures c.estimate_of-x.ensures)
+    (estimate_told u.p.on_grid u.q.on_grid u.r.on_grid t.q.on_grid c.requires a c.rough_of-2.ensures c.estimate_of-y.ensures)
+    (estimate_told u.p.on_grid u.q.on_grid u.r.on_grid t.r.on_grid c.requires a c.rough_of-3.ensures c.estimate_of-z.ensures))
