@@ -10,7 +10,7 @@ use borrow.Rule.Slice.PartMut.{put_mid}
 use lib.Bits.{bit_and}
 use lib.Dec.{ltb}
 use lib.IntN.{ℤ}
-use lib.ListN.{length, get_or, take, drop}
+use lib.ListN.{length, get_or, drop}
 use lib.Seq.{get_or-take, get_or-drop}
 use lib.Pow.{pow_pos}
 use mir.Val.{bool_byte}
@@ -70,10 +70,20 @@ module _ {boxes marks box : List ℤ} {m : ℕ} {table rows : List ℕ} (right :
     set = λ t h reaches. joined.set t (set_in_last w t few h) (set_in_row w t few h reaches);
   }
 
--- ---- the words of one box more
-at_part : (p n k : ℕ) (words : List ℕ) → k < n → get_or (take n (drop p words)) k 0 ≡ get_or words (p + k) 0
-at_part p n k words h = get_or-take n (drop p words) k 0 h ∙ get_or-drop p words k 0
+-- ---- words that are written over a part of others
+module _ (p n k : ℕ) (words new : List ℕ) (inside : p ≤ length words) where
+  pub here_put : (width : ℕ) → length new ≡ width → k < width → get_or (put_mid p n words new) (p + k) 0 ≡ get_or new k 0
+  here_put width long h =
+      let after = put_mid p n words new in
+      sym (get_or-take width (drop p after) k 0 h ∙ get_or-drop p after k 0) ∙ ap (λ (l : List ℕ). get_or l k 0) (put_here p width n words new inside long)
 
+  pub before_put : k < p → get_or (put_mid p n words new) k 0 ≡ get_or words k 0
+  before_put h =
+      sym (get_or-take p (put_mid p n words new) k 0 h)
+      ∙ ap (λ (l : List ℕ). get_or l k 0) (put_before 0 p p n words new (omega arith) inside)
+      ∙ get_or-take p words k 0 h
+
+-- ---- the words of one box more
 pub candidates_on : (bounds boxes : List ℤ) (m i : ℕ) (words new : List ℕ) → i * 16 + 16 ≤ length words → length new ≡ 16 →
     CandidatesBelow bounds boxes m words (i * 16) →
     ((w : ℕ) → w < 16 → Candidates (six i bounds) boxes (w * 64) (span m (w * 64)) (get_or new w 0)) →
@@ -90,17 +100,13 @@ candidates_on bounds boxes m i words new room long earlier row k h = by_test (lt
     in_row w few =
         let of_box : (i * 16 + w) / 16 ≡ i = omega arith in
         let first : first_of (i * 16 + w) ≡ w * 64 = omega arith in
-        let written : get_or after (i * 16 + w) 0 ≡ get_or new w 0 =
-        sym (at_part (i * 16) 16 w after few) ∙ ap (λ (l : List ℕ). get_or l w 0) (put_here (i * 16) 16 (i * 16 + 16 - i * 16) words new (omega arith) long) in
+        let written = here_put (i * 16) (i * 16 + 16 - i * 16) w words new (omega arith) 16 long few in
         rw (of_box, first, written) (row w few)
 
     by_test : (t : Bool) → ltb k (i * 16) ≡ t → Right k
     by_test true e =
         let before = ltb-true k (i * 16) e in
-        let stays : get_or after k 0 ≡ get_or words k 0 =
-        sym (get_or-take (i * 16) after k 0 before)
-        ∙ ap (λ (l : List ℕ). get_or l k 0) (put_before 0 (i * 16) (i * 16) (i * 16 + 16 - i * 16) words new (omega arith) (omega arith))
-        ∙ get_or-take (i * 16) words k 0 before in
+        let stays = before_put (i * 16) (i * 16 + 16 - i * 16) k words new (omega arith) before in
         rw stays (earlier k before)
     by_test false e =
         let from = ltb-false k (i * 16) e in

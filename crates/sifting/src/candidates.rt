@@ -26,11 +26,11 @@ fn put_one_by_one(words: &mut [u64], bounds: &[i32], boxes: &[i32], n: usize, m:
     requires { (n ≤ 1024) × (n * 16 ≤ length words.old) × (6 * n ≤ length bounds.now) × (6 * m ≤ length boxes.now) }
     ensures { CandidatesBelow bounds.now boxes.now m words.new (n * 16) }
 {
-    for k in 0..n * 16 {
+    for (k, word) in words[..n * 16].iter_mut().enumerate() {
         let box_at = 6 * (k / 16);
         let first = &bounds[box_at..box_at + 6];
         let from = k % 16 * 64;
-        words[k] = word_where(span_of(m, from), |t| reaches(first, boxes, from + t));
+        *word = word_where(span_of(m, from), |t| reaches(first, boxes, from + t));
     }
 }
 

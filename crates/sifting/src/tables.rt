@@ -20,10 +20,11 @@ impl Sieve {
         requires { 6 * m ≤ length boxes.now }
         ensures { (self.new.marks ≡ self.old.marks) × ((k : ℕ) → k < 1536 → SiftsAt boxes.now self.new.marks m self.new.words k) }
     {
-        for k in 0..1_536 {
-            let mark = self.marks[k / 16];
+        let marks = self.marks;
+        for (k, word) in self.words[..1_536].iter_mut().enumerate() {
+            let mark = marks[k / 16];
             let from = k % 16 * 64;
-            self.words[k] = word_where(
+            *word = word_where(
                 span_of(m, from),
                 |t| end_at(boxes, k / 256, from + t) < mark,
             );
@@ -34,8 +35,8 @@ impl Sieve {
     fn put_last_row(&mut self, m: usize)
         ensures { (self.new.marks ≡ self.old.marks) × (length self.new.words ≡ 1552) × ((w : ℕ) → w < 16 → AllSet m self.new.words w) × ((k : ℕ) → k < 1536 → get_or self.new.words k 0 ≡ get_or self.old.words k 0) }
     {
-        for w in 0..16 {
-            self.words[1_536 + w] = all_of(span_of(m, w * 64));
+        for (w, word) in self.words[1_536..].iter_mut().enumerate() {
+            *word = all_of(span_of(m, w * 64));
         }
     }
 

@@ -3,4 +3,4 @@ use Rattle.sifting.specs.Tables.{CandidatesBelow}
 use Rattle.sifting.proofs.candidates.put_one_by_one.Given as goal
 
 abbrev pub invariant-loop-k : goal.invariant-loop-k
-invariant-loop-k l = CandidatesBelow l.bounds l.boxes l.m l.words l.k
+invariant-loop-k l = CandidatesBelow l.bounds l.boxes l.m l.word-items l.k
