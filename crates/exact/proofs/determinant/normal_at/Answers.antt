@@ -1,6 +1,4 @@
 -- `exact::determinant::normal_at` meets its contract: the minors of the two rows. Assumes nothing.
-use Rattle.std.proofs.Common.{◌∙◌}
-use Rattle.shape.specs.Normals.{minors}
 use Rattle.exact.proofs.Readings.{sized_normal, sized_minors}
 use Rattle.exact.proofs.determinant.normal_at.Goals as goal
 

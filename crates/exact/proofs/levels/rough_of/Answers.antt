@@ -1,7 +1,5 @@
 -- `exact::levels::rough_of` meets its contract: each coordinate of the grid is kept as it is. Assumes nothing.
-use Rattle.std.proofs.Common.{ap, ◌∙◌}
 use Rattle.algebra.proofs.Machine.{size}
-use Rattle.estimates.specs.Doubles.{double}
 use Rattle.exact.proofs.Readings.{coordinate}
 use Rattle.exact.proofs.levels.rough_of.Goals as goal
 
