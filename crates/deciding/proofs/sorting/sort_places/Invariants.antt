@@ -1,6 +1,6 @@
--- `deciding::standings::sort_places` meets its contract: each turn asks at the lowest place. Assumes nothing.
+-- `deciding::sorting::sort_places` meets its contract: each turn asks at the lowest place. Assumes nothing.
 use Rattle.deciding.proofs.StageLaws.{Sorting}
-use Rattle.deciding.proofs.standings.sort_places.Given as goal
+use Rattle.deciding.proofs.sorting.sort_places.Given as goal
 
 abbrev pub invariant-loop-z : goal.invariant-loop-z
 invariant-loop-z g l =

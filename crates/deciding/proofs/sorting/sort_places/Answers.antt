@@ -1,10 +1,10 @@
--- `deciding::standings::sort_places` meets its contract: each turn asks at the lowest place. Assumes nothing.
+-- `deciding::sorting::sort_places` meets its contract: each turn asks at the lowest place. Assumes nothing.
 use mathlib.Core.Path.{subst}
 use Rattle.std.proofs.Common.{ℕ, arith}
 use Rattle.words.proofs.LowestLaws.{lowest_is_set}
 use Rattle.words.proofs.Filling.{filled_fits}
 use Rattle.deciding.proofs.StageLaws.{Sorting, sorting_starts, sorting_on, sorting_ends}
-use Rattle.deciding.proofs.standings.sort_places.Goals as goal
+use Rattle.deciding.proofs.sorting.sort_places.Goals as goal
 
 pub loop-z-init : goal.loop-z-init
 loop-z-init g c =
