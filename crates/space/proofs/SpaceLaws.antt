@@ -3,12 +3,11 @@
 use mathlib.Core.Path.{◌≡◌, refl, sym, ◌∙◌, ap, subst}
 use mathlib.Core.Bool.{Bool, true, false, not, ◌&&◌, cond}
 use mathlib.Core.List.{List, [], ◌∷◌}
-use Prim.Native.Nat.{ℕ, zero, suc, ◌*◌, ◌/◌, ◌^◌, ◌≤◌, ◌<◌}
+use Prim.Native.Nat.{ℕ, zero, suc, ◌*◌, ◌/◌, ◌≤◌}
 use native.Mathlib.Omega.{arith}
-use lib.ListN.{length, get_or}
 use lib.Dec.{eqb}
 use borrow.Author.Tests.{ltb-true, ltb-false}
-use Rattle.std.proofs.Common.{eqb-true, true≢false}
+use Rattle.std.proofs.Common.{eqb-true}
 use lib.Ieee.{Float, nan}
 use lib.IntN.{ℤ, nat_abs}
 use mir.Val.{bool_byte}
@@ -27,30 +26,13 @@ use Rattle.exact.specs.Vectors.{spatial, components, Sized, minor_size, narrow_s
 use Rattle.space.specs.Spaces.{SpaceAt, SizedSpace, IsNormal, named_axis, IsPlaneOf, SidesHold, of_space, of_spaces, of_list, turns_in, swap_in, told_standing, Numbered, Stands, first_place, second_place, third_place, InOrder, last_signs_by}
 use Rattle.estimates.specs.Doubles.{rough, plane_of}
 use Rattle.estimates.specs.declared.Plane.{Plane}
-use Rattle.std.specs.Prelude.{Some, None, unwrap_or, is_some}
+use Rattle.std.specs.Prelude.{Some, None, unwrap_or}
 use Rattle.exact.specs.declared.points.SpacePoint.{SpacePoint}
 use Rattle.exact.specs.declared.points.Normal.{Normal}
 use Rattle.exact.specs.declared.points.Triangle.{Triangle}
 use Rattle.exact.proofs.GridLaws.{sized_within, sized_point}
 use Rattle.exact.proofs.Readings.{kept, coordinate, sized_row, sized_normal}
 use Rattle.exact.proofs.Holding.{narrow_holds, small_holds}
-
--- The number is none of those below n, as a `match` leaves it that has an arm for each.
-abbrev pub NoneBelow : (n p : ℕ) → Type 0
-NoneBelow zero p = Unit {0}
-NoneBelow (suc n) p = NoneBelow n p × (p ≡ n → ⊥)
-
--- So it is no pattern.
-pub past_patterns : {X : Type 0} (p : ℕ) → NoneBelow 27 p → p ≤ 26 → X
-past_patterns p none few = absurd (omega (arith, least 27 none))
-  where
-    least : (n : ℕ) → NoneBelow n p → n ≤ p
-    least zero h = omega arith
-    least (suc n) h = omega (arith, least n h.0, h.1)
-
--- The number that an arm gives for its pattern.
-pub stands : {p s k : ℕ} → p ≡ k → told_standing s ≡ standing k → Numbered s → Stands p s
-stands e told number = record { told = told ∙ sym (ap standing e); number = number }
 
 -- The pattern that was found is that of two lists.
 pub stands_so : {p q s : ℕ} → p ≡ q → Stands p s → Stands q s
@@ -130,16 +112,6 @@ lists_hold k l nk nl = record { at_p = one 0; at_q = one 3; at_r = one 6 }
 
     one : (i : ℕ) → Holds (row (point_at 3 6 l) (point_at 3 i k)) (normal_in l)
     one i = small_holds (corner 0) (corner 3) (corner 6) (corner 6) (sized_within narrow k nk 3 i refl)
-
--- The same of the points and the normal that code holds.
-held_so : {p q n a b m : Point} → a ≡ p → b ≡ q → m ≡ n → Holds (row p q) n → Holds (row a b) m
-held_so ep eq en h = record { below = subst (λ (z : ℤ). nat_abs z < 2 ^ 63) (sym (λ i. dot (row (ep i) (eq i)) (en i))) h.below }
-
-pub sides_held : {k l : List ℤ} {t u : Triangle SpacePoint} (n : Normal) → SidesHold k l →
-    SpaceAt (point_at 3 0 k) (point_at 3 3 k) (point_at 3 6 k) t → SpaceAt (point_at 3 0 l) (point_at 3 3 l) (point_at 3 6 l) u → components n ≡ normal_in l →
-    Holds (row (spatial u.r) (spatial t.p)) (components n) × Holds (row (spatial u.r) (spatial t.q)) (components n) × Holds (row (spatial u.r) (spatial t.r)) (components n)
-sides_held n h at_t at_u e =
-    (held_so at_u.at_r at_t.at_p e h.at_p, held_so at_u.at_r at_t.at_q e h.at_q, held_so at_u.at_r at_t.at_r e h.at_r)
 
 -- The level over the plane through c that has the normal of a, b, c.
 pub level_told : {n : Point} (a b c d : Point) → n ≡ normal_of a b c → digit (sign (dot (row c d) n)) ≡ level a b c d
@@ -224,16 +196,6 @@ any_axis f same k = by_test (eqb k 3) refl
     by_test true e = same ∙ ap f (sym (eqb-true k 3 e))
     by_test false e = refl
 
--- None is named by 3 alone.
-pub none_named : (k : ℕ) (r : Bool) → is_some (named_axis k) ≡ not r → r ≡ eqb k 3
-none_named k r = by_test (eqb k 3) r
-  where
-    by_test : (b r : Bool) → is_some (cond b None (Some k)) ≡ not r → r ≡ b
-    by_test true true e = refl
-    by_test true false e = absurd (true≢false (sym e))
-    by_test false true e = absurd (true≢false e)
-    by_test false false e = refl
-
 -- The two coordinates that are kept of a point of the grid, as code reads them.
 pub kept_two : (k : ℕ) {a : Point} {x y : ℤ} → Sized limit a → x ≡ kept (coord (kept_first k) a) → y ≡ kept (coord (kept_second k) a) → Sized limit (x ∷ y ∷ [])
 kept_two k {a} {x} {y} s ex ey =
@@ -260,11 +222,3 @@ plane_of_row u e = λ i. record { x = first (e i); y = second (e i); z = third (
     third : List Float → Float
     third [] = nan
     third (x ∷ l) = second l
-
--- A list of three is what it has at its three places.
-pub three_of : (l : List Float) (d : Float) → length l ≡ 3 → get_or l 0 d ∷ get_or l 1 d ∷ get_or l 2 d ∷ [] ≡ l
-three_of [] d e = absurd (omega arith)
-three_of (x ∷ []) d e = absurd (omega arith)
-three_of (x ∷ y ∷ []) d e = absurd (omega arith)
-three_of (x ∷ y ∷ z ∷ []) d e = refl
-three_of (x ∷ y ∷ z ∷ w ∷ l) d e = absurd (omega arith)

@@ -85,7 +85,5 @@ fn shadows_meet(k: u32, s: Segment<SpacePoint>, t: Segment<SpacePoint>) -> bool
 pub fn segments_meet(s: Segment<SpacePoint>, t: Segment<SpacePoint>) -> bool
     ensures { result ≡ segments_test (spatial s.p) (spatial s.q) (spatial t.p) (spatial t.q) }
 {
-    along_meet(s, t)
-        && level_at(s.p, s.q, t.p, t.q) == 1
-        && (0..3).all(|k| shadows_meet(k, s, t))
+    along_meet(s, t) && level_at(s.p, s.q, t.p, t.q) == 1 && (0..3).all(|k| shadows_meet(k, s, t))
 }

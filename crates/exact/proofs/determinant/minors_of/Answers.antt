@@ -1,8 +1,7 @@
 -- `exact::determinant::minors_of` meets its contract: no step overflows, and the result has the three minors.
 -- Assumes nothing.
-use Rattle.std.proofs.Common.{w64}
-use Rattle.algebra.proofs.Machine.{in_range, held}
-use Rattle.exact.proofs.Readings.{times, minor_read, vector}
+use Rattle.algebra.proofs.Machine.{in_range}
+use Rattle.exact.proofs.Readings.{times, minor_read, minors_read}
 use Rattle.exact.proofs.determinant.minors_of.Goals as goal
 
 pub overflow_mul-result : goal.overflow_mul-result
@@ -60,15 +59,7 @@ overflow_sub-result-3 c =
     in_range (minor_read v w 0 1 (c.requires.each 2)) tt
 
 pub invariant_of-result : goal.invariant_of-result
-invariant_of-result c =
-    let v = c.args.v.of_grid in
-    let w = c.args.w.of_grid in
-    record {
-      of_grid = (vector (held w64 (minor_read v w 1 2 (c.requires.each 0)) tt) (held w64 (minor_read v w 2 0 (c.requires.each 1)) tt) (held w64 (minor_read v w 0 1 (c.requires.each 2)) tt)).1;
-    }
+invariant_of-result c = record { of_grid = (minors_read c.args.v.of_grid c.args.w.of_grid c.requires).1 }
 
 pub returns : goal.returns
-returns c =
-    let v = c.args.v.of_grid in
-    let w = c.args.w.of_grid in
-    (vector (held w64 (minor_read v w 1 2 (c.requires.each 0)) tt) (held w64 (minor_read v w 2 0 (c.requires.each 1)) tt) (held w64 (minor_read v w 0 1 (c.requires.each 2)) tt)).0
+returns c = (minors_read c.args.v.of_grid c.args.w.of_grid c.requires).0

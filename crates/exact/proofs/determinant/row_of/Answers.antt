@@ -1,7 +1,7 @@
 -- `exact::determinant::row_of` meets its contract: no difference overflows, and they are those of the row.
 -- Assumes nothing.
 use Rattle.algebra.proofs.Machine.{in_range}
-use Rattle.exact.proofs.Readings.{gap, stored_gap_law, vector}
+use Rattle.exact.proofs.Readings.{gap, row_read}
 use Rattle.exact.proofs.determinant.row_of.Goals as goal
 
 pub overflow_sub-result : goal.overflow_sub-result
@@ -23,13 +23,7 @@ overflow_sub-result-3 c =
     in_range (gap a d 2) tt
 
 pub invariant_of-result : goal.invariant_of-result
-invariant_of-result c =
-    let a = c.args.a.on_grid in
-    let d = c.args.d.on_grid in
-    record { of_grid = (vector (stored_gap_law a d 0) (stored_gap_law a d 1) (stored_gap_law a d 2)).1 }
+invariant_of-result c = record { of_grid = (row_read c.args.a.on_grid c.args.d.on_grid).1 }
 
 pub returns : goal.returns
-returns c =
-    let a = c.args.a.on_grid in
-    let d = c.args.d.on_grid in
-    (vector (stored_gap_law a d 0) (stored_gap_law a d 1) (stored_gap_law a d 2)).0
+returns c = (row_read c.args.a.on_grid c.args.d.on_grid).0

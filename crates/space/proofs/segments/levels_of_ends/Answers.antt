@@ -3,19 +3,9 @@ use mathlib.Core.Path.{◌∙◌}
 use Prim.Native.Nat.{◌+◌, ◌*◌}
 use native.Mathlib.Omega.{arith}
 use Rattle.exact.specs.Vectors.{spatial}
-use Rattle.exact.proofs.Branches.{bit≤}
 use Rattle.exact.proofs.LevelLaws.{estimate_told, level_from_first}
 use Rattle.space.proofs.SegmentLaws.{ends_told}
 use Rattle.space.proofs.segments.levels_of_ends.Goals as goal
-
-pub overflow_mul-result : goal.overflow_mul-result
-overflow_mul-result c = omega (arith, bit≤ c.is_above.result)
-
-pub overflow_mul-result-then-is_sure : goal.overflow_mul-result-then-is_sure
-overflow_mul-result-then-is_sure c = omega (arith, bit≤ c.is_above-then-is_sure.result)
-
-pub overflow_add-result : goal.overflow_add-result
-overflow_add-result c = omega (arith, bit≤ c.is_above.result, bit≤ c.is_above-then-is_sure.result)
 
 pub returns-then-is_sure : goal.returns-then-is_sure
 returns-then-is_sure c =

@@ -22,18 +22,6 @@ returns-then-is_sure c =
     c.is_above.ensures
     c.is_below-then-is_sure.ensures
 
-pub level_over-i-requires : goal.level_over-i-requires
-level_over-i-requires c =
-    record { b = _; c = _; sized_b = c.args.q.on_grid; sized_c = c.args.t.p.on_grid; is = c.plane_at-f.ensures; normal_is = c.normal_at-m.ensures }
-
-pub level_over-j-requires : goal.level_over-j-requires
-level_over-j-requires c =
-    record { b = _; c = _; sized_b = c.args.q.on_grid; sized_c = c.args.t.p.on_grid; is = c.plane_at-f.ensures; normal_is = c.normal_at-m.ensures }
-
-pub level_over-k-requires : goal.level_over-k-requires
-level_over-k-requires c =
-    record { b = _; c = _; sized_b = c.args.q.on_grid; sized_c = c.args.t.q.on_grid; is = c.plane_at-g.ensures; normal_is = c.normal_at-n.ensures }
-
 pub returns-else-is_sure : goal.returns-else-is_sure
 returns-else-is_sure c =
     let a = c.args in

@@ -5,16 +5,6 @@ use Rattle.space.specs.Spaces.{Crosses}
 use Rattle.space.proofs.SpaceLaws.{last_in_order}
 use Rattle.space.proofs.signs.estimated_crossing.Goals as goal
 
-pub in_order-requires : goal.in_order-requires
-in_order-requires c =
-    let p = c.requires in
-    (p.0, p.2, p.3)
-
-pub in_order-requires-2 : goal.in_order-requires-2
-in_order-requires-2 c =
-    let p = c.requires in
-    (p.1, p.3, p.2)
-
 pub returns : goal.returns
 returns c =
     subst (λ (v : Bool). Crosses v c.estimated_signs.result)

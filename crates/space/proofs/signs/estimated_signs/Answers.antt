@@ -1,19 +1,7 @@
 -- `space::signs::estimated_signs` meets its contract: sure estimates tell the levels. Assumes nothing.
-use mathlib.Core.Bool.{◌&&◌}
-use native.Mathlib.Omega.{arith}
-use Rattle.exact.proofs.Branches.{bit≤}
 use Rattle.exact.proofs.LevelLaws.{estimate_told}
 use Rattle.space.proofs.Guesses.{signs_told, signs_found}
 use Rattle.space.proofs.signs.estimated_signs.Goals as goal
-
-pub overflow_sub-result : goal.overflow_sub-result
-overflow_sub-result c = bit≤ (c.is_sure.result && c.is_sure-2.result)
-
-pub overflow_mul-result : goal.overflow_mul-result
-overflow_mul-result c = omega arith
-
-pub overflow_add-result : goal.overflow_add-result
-overflow_add-result c = omega (arith, bit≤ (c.is_below.result && c.is_below-2.result))
 
 pub returns : goal.returns
 returns c =

@@ -4,17 +4,7 @@ use Prim.Native.Nat.{◌+◌, ◌*◌}
 use native.Mathlib.Omega.{arith}
 use Rattle.exact.specs.Vectors.{spatial}
 use Rattle.exact.proofs.LevelLaws.{level_from_first}
-use Rattle.space.proofs.SpaceLaws.{plane_through}
 use Rattle.space.proofs.standings.exact_pattern.Goals as goal
-
-pub level_over-requires : goal.level_over-requires
-level_over-requires c = plane_through c.requires.0 c.requires.1
-
-pub level_over-requires-2 : goal.level_over-requires-2
-level_over-requires-2 c = plane_through c.requires.0 c.requires.1
-
-pub level_over-requires-3 : goal.level_over-requires-3
-level_over-requires-3 c = plane_through c.requires.0 c.requires.1
 
 pub returns : goal.returns
 returns c =

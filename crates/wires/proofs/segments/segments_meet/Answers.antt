@@ -1,6 +1,6 @@
 -- `wires::segments::segments_meet` meets its contract: the stretches, the plane and the shadows are asked in the order of the decision. Assumes
 -- nothing.
-use Rattle.std.proofs.Common.{◌≡◌, ℕ, [], ◌∷◌, Bool, true, false, ◌&&◌, cond, sym, refl, ◌∙◌, eqb, ap, true≢false, rules, tests}
+use Rattle.std.proofs.Common.{◌≡◌, ℕ, Bool, true, false, ◌&&◌, cond, sym, refl, ◌∙◌, eqb, ap, true≢false, rules, tests}
 use Rattle.std.specs.List.{list_all, range_with_len}
 use Rattle.std.proofs.lemmas.Iterator.{YieldsList-from_range}
 use Rattle.std.proofs.lemmas.Iterator.Search.{all_from_yields_List}
@@ -31,10 +31,10 @@ returns-then-level_at-eq1 c =
     let t = c.args.t in
     let test : ℕ → Bool = λ k. shadows_meet k (spatial s.p) (spatial s.q) (spatial t.p) (spatial t.q) in
     let asked : c.all.result ≡ list_all test (range_with_len 0 3) =
-        all_from_yields_List test _ _ c.all.result c.all.ensures.ran (YieldsList-from_range 0 3 3 (cc) refl) (λ x b q k. search (rules, tests)) in
+    all_from_yields_List test _ _ c.all.result c.all.ensures.ran (YieldsList-from_range 0 3 3 (cc) refl) (λ x b q k. search (rules, tests)) in
     elim c.if-along_meet.branch [
-      then-along_meet w ↦
-        if_taken _ _ c.along_meet.ensures w.if-along_meet.true
-        (if_taken _ _ (ap (λ (n : ℕ). eqb n 1) w.level_at.ensures.0) (sym w.value-is ∙ c.if-level_at-eq1.true) (asked ∙ all_three test))
-    | else-along_meet w ↦ absurd (true≢false (sym c.if-level_at-eq1.true ∙ w.value-is ∙ w.if-along_meet.false))
+      | then-along_meet w ↦
+          if_taken _ _ c.along_meet.ensures w.if-along_meet.true
+          (if_taken _ _ (ap (λ (n : ℕ). eqb n 1) w.level_at.ensures.0) (sym w.value-is ∙ c.if-level_at-eq1.true) (asked ∙ all_three test))
+      | else-along_meet w ↦ absurd (true≢false (sym c.if-level_at-eq1.true ∙ w.value-is ∙ w.if-along_meet.false))
     ]
