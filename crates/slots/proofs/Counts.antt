@@ -115,10 +115,22 @@ cross_take mark [] S j h = omega arith
 cross_take mark (x ∷ T) S zero h = omega arith
 cross_take mark (x ∷ T) S (suc j) h = omega (arith, cross_take mark T S j (omega arith))
 
-pub cross_more : (mark : ℕ) (T S : List Slot) (j : ℕ) {n m : ℕ} → j < length T → n ≡ cross mark (take j T) S → m ≡ row_of mark (get_or T j free) S →
-    n + m ≡ cross mark (take (j + 1) T) S
-cross_more mark T S j h e f =
-    (λ i. e i + f i) ∙ sym (cross_take mark T S j h) ∙ ap (λ (k : ℕ). cross mark (take k T) S) (sym (add-one j))
+-- One slot more, of the part or not.
+pub cross_own : (mark : ℕ) (T S : List Slot) (j : ℕ) {n m : ℕ} → j < length T → n ≡ cross mark (take j T) S → mark_of (get_or T j free) ≡ mark →
+    m ≡ row (get_or T j free) S → n + m ≡ cross mark (take (j + 1) T) S
+unfolding row_of
+cross_own mark T S j {m} h e own f =
+    let x = get_or T j free in
+    let here : m ≡ row_of mark x S = f ∙ rw (eq-eqb (mark_of x) mark own) refl in
+    (λ i. e i + here i) ∙ sym (cross_take mark T S j h) ∙ ap (λ (k : ℕ). cross mark (take k T) S) (sym (add-one j))
+
+pub cross_other : (mark : ℕ) (T S : List Slot) (j : ℕ) {n : ℕ} → j < length T → n ≡ cross mark (take j T) S → (mark_of (get_or T j free) ≡ mark → ⊥) →
+    n ≡ cross mark (take (j + 1) T) S
+unfolding row_of
+cross_other mark T S j h e other =
+    let x = get_or T j free in
+    let none : row_of mark x S ≡ 0 = rw (ne_eqb (mark_of x) mark other) refl in
+    e ∙ omega (arith, none, cross_take mark T S j h) ∙ ap (λ (k : ℕ). cross mark (take k T) S) (sym (add-one j))
 
 pub cross_all : (mark : ℕ) (T S : List Slot) (j : ℕ) → length T ≤ j → cross mark (take j T) S ≡ cross mark T S
 cross_all mark T S j h = ap (λ (l : List Slot). cross mark l S) (take_all j T h)
