@@ -10,8 +10,5 @@ pub fn zg_list(a: &[i32], b: &[i32], buffer: &mut [u32], start: usize, answer: &
     if answer.len() < 4 {
         return 1;
     }
-    put(
-        answer,
-        numbers_of(listing::list_pairs(a, b, buffer, start)),
-    )
+    put(answer, numbers_of(listing::list_pairs(a, b, buffer, start)))
 }
