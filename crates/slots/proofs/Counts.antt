@@ -3,7 +3,7 @@
 use mathlib.Core.Path.{◌≡◌, refl, sym, ap, ◌∙◌}
 use mathlib.Core.Bool.{Bool, true, false, cond}
 use mathlib.Core.List.{List, [], ◌∷◌, map}
-use Prim.Native.Nat.{ℕ, zero, suc, ◌+◌, ◌*◌, ◌%◌, ◌^◌, ◌<◌, ◌≤◌}
+use Prim.Native.Nat.{ℕ, zero, suc, ◌+◌, ◌-◌, ◌*◌, ◌%◌, ◌^◌, ◌<◌, ◌≤◌}
 use native.Mathlib.Nat.{mul-suc}
 use native.Mathlib.Numerals.{add-one}
 use native.Mathlib.Omega.{arith}
@@ -217,30 +217,32 @@ without_shifted q by (x ∷ S) = λ i. one x i ∷ without_shifted q by S i
 
 -- ---- the count in 32 bits
 -- Taken out by subtraction and put in by addition, both without the carry: t is what is left between.
-replaced : (t less more rest n total : ℕ) → total ≡ less + t → n ≡ more + t → total ≤ 4096 → n ≤ 4096 →
-    (rest + less) % 2 ^ 32 ≡ total → rest < 2 ^ 32 → (rest + more) % 2 ^ 32 ≡ n
-replaced t less more rest n total a b c d e f = omega arith
+replaced : (t less more n total : ℕ) → total ≡ less + t → n ≡ more + t → total ≤ 4096 → n ≤ 4096 →
+    ((total + (2 ^ 32 - less)) % 2 ^ 32 + more) % 2 ^ 32 ≡ n
+replaced t less more n total a b c d = omega arith
 
 small : (S : List Slot) → length S ≡ 64 → tally S ≤ 4096
 small S long = omega (arith, tally≤ S 64 (omega arith))
 
 -- A slot is written.
-pub write_count : (S : List Slot) (s : ℕ) (x : Slot) (less more rest count : ℕ) → length S ≡ 64 → s < 64
+pub write_count : (S : List Slot) (s : ℕ) (x : Slot) (less more count : ℕ) → length S ≡ 64 → s < 64
     → less ≡ row (get_or S s free) S → more ≡ row (get_or (set S s x) s free) (set S s x)
-    → (rest + less) % 2 ^ 32 ≡ tally S → rest < 2 ^ 32 → count ≡ (rest + more) % 2 ^ 32 → count ≡ tally (set S s x)
-write_count S s x less more rest count long inside a b c d e =
-    e ∙ replaced (tally (set S s free)) less more rest (tally (set S s x)) (tally S)
+    → count ≡ tally S → ((count + (2 ^ 32 - less)) % 2 ^ 32 + more) % 2 ^ 32 ≡ tally (set S s x)
+write_count S s x less more count long inside a b c =
+    ap (λ (n : ℕ). ((n + (2 ^ 32 - less)) % 2 ^ 32 + more) % 2 ^ 32) c
+    ∙ replaced (tally (set S s free)) less more (tally (set S s x)) (tally S)
     (tally_out S s (omega arith) ∙ ap (λ (n : ℕ). n + tally (set S s free)) (sym a))
     (tally_out (set S s x) s (simp length-set (omega arith)) ∙ (λ i. sym b i + tally (set-set S s x free i)))
-    (small S long) (small (set S s x) (length-set S s x ∙ long)) c d
+    (small S long) (small (set S s x) (length-set S s x ∙ long))
 
 -- A part is moved.
-pub move_count : (q : ℕ) (by : List ℤ) (S : List Slot) (less more rest count : ℕ) → length S ≡ 64
+pub move_count : (q : ℕ) (by : List ℤ) (S : List Slot) (less more count : ℕ) → length S ≡ 64
     → less ≡ cross (suc q) S S → more ≡ cross (suc q) (map (shifted q by) S) (map (shifted q by) S)
-    → (rest + less) % 2 ^ 32 ≡ tally S → rest < 2 ^ 32 → count ≡ (rest + more) % 2 ^ 32 → count ≡ tally (map (shifted q by) S)
-move_count q by S less more rest count long a b c d e =
+    → count ≡ tally S → ((count + (2 ^ 32 - less)) % 2 ^ 32 + more) % 2 ^ 32 ≡ tally (map (shifted q by) S)
+move_count q by S less more count long a b c =
     let M = map (shifted q by) S in
-    e ∙ replaced (tally (map (without (suc q)) S)) less more rest (tally M) (tally S)
+    ap (λ (n : ℕ). ((n + (2 ^ 32 - less)) % 2 ^ 32 + more) % 2 ^ 32) c
+    ∙ replaced (tally (map (without (suc q)) S)) less more (tally M) (tally S)
     (tally_split (suc q) S ∙ ap (λ (n : ℕ). n + tally (map (without (suc q)) S)) (sym a))
     (tally_split (suc q) M ∙ (λ i. sym b i + tally (without_shifted q by S i)))
-    (small S long) (small M (length-map S (shifted q by) ∙ long)) c d
+    (small S long) (small M (length-map S (shifted q by) ∙ long))
