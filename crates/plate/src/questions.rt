@@ -19,7 +19,7 @@ use keeping::Plate;
 use predicate::Verdict;
 use reasons::{part_checked, present_checked};
 use shells::is_open;
-use slots::{OnGrid, Slots};
+use slots::{GridSlots, Slots};
 
 // How many pairs of slots clash. It is read, not counted.
 pub fn count(plate: Plate) -> u32
@@ -54,7 +54,7 @@ fn either_inside(first: &[i32], second: &[i32]) -> bool
 }
 
 // The verdict on two parts whose skins don't meet: whether their shells are closed, and then their corners.
-fn shells_verdict(slots: OnGrid<'_>, p: usize, q: usize) -> Result<Verdict, Refusal>
+fn shells_verdict(slots: GridSlots<'_>, p: usize, q: usize) -> Result<Verdict, Refusal>
     requires { (p ≤ 15) × (q ≤ 15) }
     ensures { (S : List Slot) → Shown S slots.entry.slots.now.coords slots.entry.slots.now.marks → told_verdict result ≡ (shell_checks S p q then served (either_in S p q)) }
 {

@@ -19,5 +19,5 @@ returns-in-Err c = record {
 
 pub returns-in-Ok : goal.returns-in-Ok
 returns-in-Ok c = record {
-  kept = λ before st. undo_made before _ c.popped.result _ st (undo_ahead _ (sym c.in-Ok.ensures)) c.popped.ensures c.restored.ensures refl;
+  kept = λ before st. undo_made _ before _ c.popped.result _ st (undo_ahead _ (sym c.in-Ok.ensures)) c.popped.ensures c.restored.ensures refl;
 }
