@@ -7,5 +7,5 @@ mod grid;
 mod shapes;
 
 pub use answer::{Reason, Refusal};
-pub use grid::{all_on, grid_checked, grids_checked, length_checked};
+pub use grid::{all_on, grid_checked, grids_checked, length_checked, off_grid};
 pub use shapes::{flat_test_checked, in_space_checked, shape_checked};

@@ -6,6 +6,8 @@ use Prim.Native.Nat.{ℕ, zero, suc, ◌+◌, ◌-◌, ◌*◌, ◌/◌, ◌%◌
 use native.Mathlib.Omega.{arith}
 use borrow.Author.Tests.{eqb-true, eqb-false, eq-eqb, ne_eqb}
 use lib.Bits.{bit_and, and_step}
+use lib.Count as count
+use lib.Count.{ones_step, ones-le}
 use lib.Dec.{eqb}
 use lib.Pow.{pow_pos}
 use mir.Val.{bool_byte}
@@ -39,6 +41,11 @@ set_within (suc t) (suc n) word small set = omega (arith, set_within t n (word /
 pub few_ones : (n word : ℕ) → ones n word ≤ n
 few_ones zero word = omega arith
 few_ones (suc n) word = omega (arith, few_ones n (word / 2))
+
+-- What the library counts: above the word's bits there are none.
+pub ones_counted : (n word : ℕ) → word < 2 ^ n → count.ones word ≡ ones n word
+ones_counted zero word h = omega (arith, ones-le 0 word h)
+ones_counted (suc n) word h = ones_step word ∙ ap (λ (k : ℕ). word % 2 + k) (ones_counted n (word / 2) (omega arith))
 
 -- ---- a word with one bit more, below those that it had
 pub halves : (word : ℕ) (v : Bool) → (2 * word + bool_byte v) / 2 ≡ word

@@ -8,7 +8,7 @@ use lib.Bits.{bit_and, and_self}
 use lib.Count.{under, count_trailing_zeros}
 use lib.Dec.{eqb}
 use lib.Pow.{pow_pos}
-use Rattle.words.specs.Bits.{bit, Lowest, lowest_here, lowest_above, lowest_in}
+use Rattle.words.specs.Bits.{bit, Lowest, lowest_here, lowest_above}
 use Rattle.words.proofs.BitLaws.{and_half, and_low}
 
 -- ---- the bits of both
@@ -62,7 +62,3 @@ lowest_taken (suc n) word some small = by_lowest (word % 2) refl (λ above. lowe
         let same : (word - 1) / 2 ≡ half = omega arith in
         let set : word % 2 ≡ 1 = omega arith in
         lowest_here set gone (and_half word (word - 1) ∙ ap (bit_and half) same ∙ and_self half)
-
--- Of one word: the place that one function gives, and the word without that bit that the other gives.
-pub lowest_found : {z word rest : ℕ} → z ≡ lowest_in word → Lowest (lowest_in word) word rest → Lowest z word rest
-lowest_found {z} {word} {rest} place low = subst (λ (p : ℕ). Lowest p word rest) (sym place) low

@@ -6,11 +6,5 @@ ghost use Rattle.words.specs.Spans.{span};
 pub fn span_of(m: usize, from: usize) -> usize
     ensures { result ≡ span m from }
 {
-    if m <= from {
-        return 0;
-    }
-    if m - from < 64 {
-        return m - from;
-    }
-    64
+    m.saturating_sub(from).min(64)
 }

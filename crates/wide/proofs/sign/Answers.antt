@@ -1,5 +1,5 @@
 -- `wide::sign` meets its contract: the high word decides, and where it is 0 the low one. Assumes nothing.
-use Rattle.std.proofs.Common.{◌≡◌, ℕ, zero, suc, ◌+◌, ◌-◌, ◌*◌, ◌^◌, ◌<◌, ◌≤◌, Bool, true, false, cond, not, T, ltb, ℤ, pos, negsuc, ◌+ℤ◌, ◌*ℤ◌, neg_ℤ, sym, refl, ap, ◌∙◌, arith, nltb→le, to_z-of_z, w64, SFits, to_z, of_z, rules, ltb-true}
+use Rattle.std.proofs.Common.{◌≡◌, ℕ, zero, suc, ◌+◌, ◌-◌, ◌*◌, ◌^◌, ◌<◌, ◌≤◌, inl, inr, Bool, true, false, cond, not, T, ltb, ℤ, pos, negsuc, ◌+ℤ◌, ◌*ℤ◌, neg_ℤ, sym, refl, ap, ◌∙◌, arith, nltb→le, to_z-of_z, w64, SFits, to_z, of_z, rules, ltb-true}
 use lib.Signed.{lt_z}
 use Rattle.shape.specs.Signs.{sign}
 use Rattle.wide.proofs.sign.Goals as goal
@@ -40,25 +40,20 @@ zero_high h l f e = ap (λ (z : ℤ). z *ℤ pos (2 ^ 64) +ℤ pos l) (sym (to_z
     go : (l : ℕ) → 0 * 2 ^ 64 + l ≡ l
     go l = omega arith
 
-pub returns-then-hi-lt0 : goal.returns-then-hi-lt0
-returns-then-hi-lt0 c =
-    let f : SFits w64 c.args.a.hi = search rules in
-    negative c.args.a.hi c.args.a.lo (omega arith) (rw (to_z-of_z f) at c.if-hi-lt0.true)
-
-pub returns-then-lo-eq0 : goal.returns-then-lo-eq0
-returns-then-lo-eq0 c =
+pub returns-then-a-lt0 : goal.returns-then-a-lt0
+returns-then-a-lt0 c =
     let a = c.args.a in
-    let f : SFits w64 c.args.a.hi = search rules in
-    sym (ap sign (zero_high a.hi a.lo f c.if-hi-eq0.true ∙ ap pos c.if-lo-eq0.true))
+    let f : SFits w64 a.hi = search rules in
+    negative a.hi a.lo (omega arith) (rw (to_z-of_z f) at c.if-a-lt0.true)
 
-pub returns-else-lo-eq0 : goal.returns-else-lo-eq0
-returns-else-lo-eq0 c =
+pub returns-then-a-eq0-2 : goal.returns-then-a-eq0-2
+returns-then-a-eq0-2 c =
     let a = c.args.a in
-    let f : SFits w64 c.args.a.hi = search rules in
-    natural a.lo (omega (arith, c.if-lo-eq0.false)) ∙ sym (ap sign (zero_high a.hi a.lo f c.if-hi-eq0.true))
+    let f : SFits w64 a.hi = search rules in
+    sym (ap sign (zero_high a.hi a.lo f c.if-a-eq0.true ∙ ap pos c.if-a-eq0-2.true))
 
-pub returns-else-hi-eq0 : goal.returns-else-hi-eq0
-returns-else-hi-eq0 c =
+pub returns-else-a-eq0 : goal.returns-else-a-eq0
+returns-else-a-eq0 c =
     let a = c.args.a in
-    let f : SFits w64 c.args.a.hi = search rules in
-    positive a.hi a.lo (rw (to_z-of_z f) at c.if-hi-lt0.false) (λ e f. c.if-hi-eq0.false e)
+    let f : SFits w64 a.hi = search rules in
+    positive a.hi a.lo (rw (to_z-of_z f) at c.if-a-lt0.false) (λ high low. elim c.else-a-eq0.either [ inl w ↦ w.1 low | inr w ↦ w high ])
