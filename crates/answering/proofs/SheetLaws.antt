@@ -59,6 +59,14 @@ refused_put {plate} {c} {out} {place} ahead is put = record {
 }
 
 -- ---- texts in the buffer
+-- A line as it was put, by the number that it has.
+pub line_as : {out after : List ℕ} {at r n m : ℕ} (count : ℕ) → (r ≡ at + length (line_of n count)) × (after ≡ laid out at (line_of n count)) → n ≡ m →
+    Put out at (line_of m count) r after
+line_as {out} {at = at} count (place, is) e = record {
+  place = place ∙ ap (λ (k : ℕ). at + length (line_of k count)) e;
+  is = is ∙ ap (λ (k : ℕ). laid out at (line_of k count)) e;
+}
+
 -- A line that there is room for leaves the buffer's length.
 pub line_length : (buffer : List ℕ) (place : ℕ) (line : List ℕ) {after : List ℕ} → after ≡ laid buffer place line → place + length line ≤ length buffer →
     length after ≡ length buffer

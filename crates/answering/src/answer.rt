@@ -8,7 +8,7 @@ ghost use Rattle.answering.specs.Sheets.{SheetText};
 ghost use Rattle.answering.specs.Steps.{Standing, FieldPut, LinesPut};
 
 use asking::field_checked;
-use checks::{Checked, Reason};
+use checks::{Reason, Refusal};
 use fields::{Tag, body_and_behind, head_of};
 use lines::put_line;
 use plate::Plate;
@@ -26,12 +26,13 @@ pub struct Applied {
     pub end: usize,
 }
 
-fn number_of(told: Checked) -> u32
+// The number of what a call told, 0 where it is served.
+fn number_of(told: Result<(), Refusal>) -> u32
     ensures { result ≡ number_of (told_check told) }
 {
     match told {
-        Checked::Refused(why) => why.number,
-        Checked::Fine => 0,
+        Ok(()) => 0,
+        Err(why) => why.reason.number(),
     }
 }
 
@@ -41,12 +42,14 @@ fn apply_field(plate: Plate, tag: Tag, body: &[u8], out: &mut [u8], end: usize) 
     ensures { FieldPut plate (call_of tag body.now) out.old end result out.new }
 {
     let answer = asking::apply(plate, tag, body);
-    let plate = answer.plate;
-    let end = put_line(out, end, number_of(answer.told), plate.count);
-    Applied { plate, end }
+    let end = put_line(out, end, number_of(answer.told), answer.plate.count);
+    Applied {
+        plate: answer.plate,
+        end,
+    }
 }
 
-// The lines of a sheet that is not too long. Whether a field is refused is asked of the plate's arrays, and the plate is passed only where it
+// The lines of a sheet that is not too long. Whether a field is refused is asked of the plate's slots, and the plate is passed only where it
 // changes: passing it takes longer than most refusals.
 fn write_lines(sheet: &[u8], out: &mut [u8]) -> usize
     requires { (length sheet.now ≤ 65536) × (174768 ≤ length out.old) }
@@ -62,14 +65,13 @@ fn write_lines(sheet: &[u8], out: &mut [u8]) -> usize
             Err(why) => return put_line(out, end, why.number(), plate.count),
         };
         let (body, behind) = body_and_behind(rest, field.size);
-        let told = field_checked(&plate.coords, &plate.parts, plate.reach, field.tag, body);
-        let number = number_of(told);
-        if number == 0 {
-            let done = apply_field(plate, field.tag, body, out, end);
-            plate = done.plate;
-            end = done.end;
-        } else {
-            end = put_line(out, end, number, plate.count);
+        match field_checked(&plate.slots, plate.reach, field.tag, body) {
+            Ok(()) => {
+                let done = apply_field(plate, field.tag, body, out, end);
+                plate = done.plate;
+                end = done.end;
+            }
+            Err(why) => end = put_line(out, end, why.reason.number(), plate.count),
         }
         rest = behind;
     }

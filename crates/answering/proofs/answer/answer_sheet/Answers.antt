@@ -5,15 +5,14 @@ use lib.ListN.{length}
 use Rattle.lines.specs.Laid.{laid}
 use Rattle.lines.specs.Lines.{line_of}
 use native.Mathlib.Omega.{arith}
-use Rattle.answering.proofs.SheetLaws.{answers}
+use Rattle.answering.proofs.SheetLaws.{line_as, answers}
 use Rattle.answering.specs.Sheets.{long, read}
 use Rattle.answering.proofs.answer.answer_sheet.Goals as goal
 
 pub returns-then-sheet-gt-LONGEST : goal.returns-then-sheet-gt-LONGEST
 returns-then-sheet-gt-LONGEST c =
-    let p = c.put_line.ensures in
-    let size : length (line_of c.number.result 0) ≡ length (line_of 15 0) = ap (λ (n : ℕ). length (line_of n 0)) c.number.ensures in
-    answers c.args.out.now (long (omega arith)) (omega (arith, p.0, size)) (p.1 ∙ ap (λ (n : ℕ). laid c.args.out.now 0 (line_of n 0)) c.number.ensures)
+    let line = line_as {m = 15} 0 c.put_line.ensures c.number.ensures in
+    answers c.args.out.now (long (omega arith)) (omega (arith, line.place)) line.is
 
 pub returns : goal.returns
 returns c =

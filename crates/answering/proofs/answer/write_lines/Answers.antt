@@ -1,5 +1,5 @@
 -- `answering::answer::write_lines` meets its contract: the lines so far are right, whatever lines follow them. Assumes nothing.
-use mathlib.Core.Path.{◌≡◌, sym, ap, ◌∙◌, subst}
+use mathlib.Core.Path.{◌≡◌, refl, sym, ap, ◌∙◌, subst}
 use mathlib.Core.List.{List}
 use Prim.Native.Nat.{ℕ, ◌+◌, ◌<◌}
 use borrow.Author.Rules.{rules}
@@ -7,6 +7,7 @@ use native.Mathlib.Omega.{arith}
 use lib.ListN.{length}
 use Rattle.std.specs.Prelude.{Ok, Err}
 use Rattle.checks.specs.Answers.{number_of}
+use Rattle.checks.specs.Reasons.{number_of_reason}
 use Rattle.plate.specs.Histories.{Call, outcome, run}
 use Rattle.plate.specs.Plates.{Stands}
 use Rattle.plate.proofs.Outcomes.{shown}
@@ -18,7 +19,7 @@ use Rattle.lines.specs.Laid.{laid}
 use Rattle.answering.specs.Sheets.{call_in}
 use Rattle.answering.specs.Steps.{FieldPut}
 use Rattle.answering.proofs.Small.{small_count, small_number, small_reason}
-use Rattle.answering.proofs.SheetLaws.{ahead, begun, one_more, refused_put, stopped, ended, room_for_line}
+use Rattle.answering.proofs.SheetLaws.{line_as, ahead, begun, one_more, refused_put, stopped, ended, room_for_line}
 use Rattle.answering.proofs.answer.write_lines.Goals as goal
 
 pub loop-field-init : goal.loop-field-init
@@ -41,18 +42,14 @@ returns-in-Err c =
     let l = c.loop-field in
     let why = c.in-Err.why in
     let e : head_of l.rest.now ≡ Err why = sym c.head_of.ensures ∙ c.in-Err.is in
-    stopped l.invariant why e
-    (record {
-      place = c.put_line.ensures.0 ∙ ap (λ (n : ℕ). l.end + length (line_of n l.plate.count)) c.number.ensures;
-      is = c.put_line.ensures.1 ∙ ap (λ (n : ℕ). laid l.out l.end (line_of n l.plate.count)) c.number.ensures;
-    })
+    stopped l.invariant why e (line_as l.plate.count c.put_line.ensures c.number.ensures)
 
 pub body_and_behind-requires : goal.body_and_behind-requires
 body_and_behind-requires c =
     (whole_field c.loop-field.rest.now (sym c.head_of.ensures ∙ c.in-Ok-Some.is ∙ ap Ok c.in-Ok-Some.field-0-is)).room
 
-pub field_checked-told-requires : goal.field_checked-told-requires
-field_checked-told-requires c =
+pub field_checked-requires : goal.field_checked-requires
+field_checked-requires c =
     let a = ahead (sym c.head_of.ensures ∙ c.in-Ok-Some.is ∙ ap Ok c.in-Ok-Some.field-0-is) c.body_and_behind.ensures in
     search (rules, a.size)
 
@@ -62,12 +59,12 @@ apply_field-done-requires c =
     let a = ahead (sym c.head_of.ensures ∙ c.in-Ok-Some.is ∙ ap Ok c.in-Ok-Some.field-0-is) c.body_and_behind.ensures in
     (record { calls = l.invariant.calls; stands = l.invariant.stands }, a.size, room_for_line l.invariant a.some c.requires.0 c.requires.1)
 
-pub loop-field-smaller-then-number-eq0 : goal.loop-field-smaller-then-number-eq0
-loop-field-smaller-then-number-eq0 c =
+pub loop-field-smaller-in-Ok : goal.loop-field-smaller-in-Ok
+loop-field-smaller-in-Ok c =
     let a = ahead (sym c.head_of.ensures ∙ c.in-Ok-Some.is ∙ ap Ok c.in-Ok-Some.field-0-is) c.body_and_behind.ensures in a.shorter
 
-pub loop-field-preserved-then-number-eq0 : goal.loop-field-preserved-then-number-eq0
-loop-field-preserved-then-number-eq0 c =
+pub loop-field-preserved-in-Ok : goal.loop-field-preserved-in-Ok
+loop-field-preserved-in-Ok c =
     let l = c.loop-field in
     let field = c.in-Ok-Some.field in
     let e = (sym c.head_of.ensures ∙ c.in-Ok-Some.is ∙ ap Ok c.in-Ok-Some.field-0-is) in
@@ -79,18 +76,8 @@ loop-field-preserved-then-number-eq0 c =
 pub put_line-end-requires : goal.put_line-end-requires
 put_line-end-requires c =
     let l = c.loop-field in
-    let field = c.in-Ok-Some.field in
     let a = ahead (sym c.head_of.ensures ∙ c.in-Ok-Some.is ∙ ap Ok c.in-Ok-Some.field-0-is) c.body_and_behind.ensures in
-    let told : (before : List Call) → Stands (run before) l.plate → c.number_of-number.result ≡ number_of (outcome (run before) (call_in field l.rest.now)) =
-    λ before st.
-    c.number_of-number.ensures
-    ∙ c.field_checked-told.ensures (run before) (shown before st).slots st.reach
-    ∙ ap (λ (body : List ℕ). number_of (outcome (run before) (call_of field.tag body))) a.has in
-    let inv = l.invariant in (
-      subst (λ (k : ℕ). k < 100) (sym (told inv.calls inv.stands)) (small_number (run inv.calls) _),
-      small_count inv.calls inv.stands,
-      room_for_line inv a.some c.requires.0 c.requires.1,
-    )
+    (omega (arith, c.number-2.ensures, (small_reason c.in-Err-2.why.reason).1), small_count l.invariant.calls l.invariant.stands, room_for_line l.invariant a.some c.requires.0 c.requires.1)
 
 pub loop-field-smaller : goal.loop-field-smaller
 loop-field-smaller c =
@@ -102,10 +89,9 @@ loop-field-preserved c =
     let field = c.in-Ok-Some.field in
     let e = (sym c.head_of.ensures ∙ c.in-Ok-Some.is ∙ ap Ok c.in-Ok-Some.field-0-is) in
     let a = ahead e c.body_and_behind.ensures in
-    let told : (before : List Call) → Stands (run before) l.plate → c.number_of-number.result ≡ number_of (outcome (run before) (call_in field l.rest.now)) =
-    λ before st.
-    c.number_of-number.ensures
-    ∙ c.field_checked-told.ensures (run before) (shown before st).slots st.reach
+    -- The number is that of the call's outcome, whatever calls made the plate.
+    let told = λ (before : List Call) (st : Stands (run before) l.plate).
+    c.in-Err-2.ensures (run before) (shown before st).slots st.reach
     ∙ ap (λ (body : List ℕ). number_of (outcome (run before) (call_of field.tag body))) a.has in
-    let put = refused_put c.if-number-eq0.false told (record { place = c.put_line-end.ensures.0; is = c.put_line-end.ensures.1 }) in
+    let put = refused_put {number = number_of_reason c.in-Err-2.why.reason} (λ none. omega (arith, (small_reason c.in-Err-2.why.reason).0)) told (line_as l.plate.count c.put_line-end.ensures c.number-2.ensures) in
     one_more l.invariant field e a.leaves put (room_for_line l.invariant a.some c.requires.0 c.requires.1)
