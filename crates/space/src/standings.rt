@@ -22,7 +22,8 @@ fn low_pattern(t: SpaceTriangle, u: SpaceTriangle, n: Normal) -> u32
     9 * low_level(u.r, n, t.p) + 3 * low_level(u.r, n, t.q) + low_level(u.r, n, t.r)
 }
 
-// The same of any sides, where the plane of u is known in doubles, too.
+// The same of any sides, where the plane of u is known in doubles, too. It is written out beside `low_pattern`, whose levels ask more of the corners: one
+// function over a closure would have to say what each asks and tells.
 fn exact_pattern(t: SpaceTriangle, u: SpaceTriangle, n: Normal, plane: Plane) -> u32
     requires { IsNormal u n × IsPlaneOf u plane }
     ensures { (result ≡ of_spaces pattern t u) × (result ≤ 26) }
