@@ -1,7 +1,10 @@
 -- What each check finds, by its cases, and each case by what the check finds: the only place where the tests in the rules are
 -- taken apart. Assumes nothing.
-use mathlib.Core.Path.{◌≡◌, refl, ap, ◌∙◌}
-use mathlib.Core.Bool.{Bool, true, false, cond}
+use mathlib.Core.Path.{◌≡◌, refl, sym, ap, ◌∙◌}
+use mathlib.Core.Bool.{Bool, true, false, not, cond}
+use Rattle.std.specs.Prelude.{Some, None, position}
+use Rattle.std.specs.List.{position_or_len}
+use Rattle.std.proofs.Common.{rules}
 use mathlib.Core.List.{List}
 use Prim.Native.Nat.{ℕ, ◌≤◌}
 use native.Mathlib.Omega.{arith}
@@ -17,10 +20,10 @@ use Rattle.shape.proofs.FlatLaws.{is_flat_law}
 use Rattle.exact.proofs.GridLaws.{small_taken, small_dropped}
 use Rattle.checks.specs.Answers.{refused, fine}
 use Rattle.exact.specs.Grid.{limit, Ready}
-use Rattle.checks.specs.Grid.{lowest_off, all_on}
+use Rattle.checks.specs.Grid.{on_grid, lowest_off, all_on}
 use Rattle.checks.specs.Rules.{right_length, all_on_grid, FlatShapes, refuses_flat, takes_flat, flat_checks}
 use Rattle.checks.proofs.AnswerLaws.{never_fine}
-use Rattle.checks.proofs.GridLaws.{Lowest, lowest, lowest_one, all_on_law, all_on_says, none_off, one_off}
+use Rattle.checks.proofs.GridLaws.{Lowest, lowest, lowest_one, all_on_law, all_on_says, none_off, one_off, position_lowest}
 
 -- ---- the length
 pub data LengthCase (side want : ℕ) (l : List ℤ) : Type 0 where
@@ -92,6 +95,27 @@ all_on_fine side l e = ap (λ (t : Bool). cond t (refused 1 side (lowest_off l))
 
 pub not_all_refused : (side : ℕ) (l : List ℤ) → all_on l ≡ false → all_on_grid side l ≡ refused 1 side (lowest_off l)
 not_all_refused side l e = ap (λ (t : Bool). cond t (refused 1 side (lowest_off l)) fine) (one_off l e)
+
+-- By the lowest place that the library finds.
+module _ (side : ℕ) (l : List ℤ) where
+  by_position : all_on_grid side l ≡ cond (ltb (position_or_len (λ z. not (on_grid z)) l) (length l)) (refused 1 side (position_or_len (λ z. not (on_grid z)) l)) fine
+  by_position = ap (λ (n : ℕ). cond (ltb n (length l)) (refused 1 side n) fine) (sym (position_lowest l))
+
+  pub found_off : (k : ℕ) → position (λ z. not (on_grid z)) l ≡ Some k → refused 1 side k ≡ all_on_grid side l
+  found_off k e = by_test (ltb (position_or_len (λ z. not (on_grid z)) l) (length l)) e by_position
+    where
+      by_test : (t : Bool) → cond t (Some (position_or_len (λ z. not (on_grid z)) l)) None ≡ Some k →
+          all_on_grid side l ≡ cond t (refused 1 side (position_or_len (λ z. not (on_grid z)) l)) fine → refused 1 side k ≡ all_on_grid side l
+      by_test true f g = let same : position_or_len (λ z. not (on_grid z)) l ≡ k = cc in sym (g ∙ ap (refused 1 side) same)
+      by_test false f g = absurd (search rules)
+
+  pub none_found : position (λ z. not (on_grid z)) l ≡ None → fine ≡ all_on_grid side l
+  none_found e = by_test (ltb (position_or_len (λ z. not (on_grid z)) l) (length l)) e by_position
+    where
+      by_test : (t : Bool) → cond t (Some (position_or_len (λ z. not (on_grid z)) l)) None ≡ None →
+          all_on_grid side l ≡ cond t (refused 1 side (position_or_len (λ z. not (on_grid z)) l)) fine → fine ≡ all_on_grid side l
+      by_test true f g = absurd (search rules)
+      by_test false f g = sym g
 
 -- A list of the wanted length that the check passes is ready.
 pub fine_ready : {want : ℕ} (side : ℕ) (l : List ℤ) → length l ≡ want → all_on_grid side l ≡ fine → Ready want l

@@ -18,6 +18,8 @@ use Rattle.shape.proofs.FlatLaws.{below_says}
 use Rattle.shape.proofs.VerdictLaws.{says_itself}
 use Rattle.exact.specs.Grid.{limit}
 use Rattle.checks.specs.Grid.{on_grid, lowest_off, all_on}
+use Rattle.std.specs.List.{position_or_len}
+use Rattle.std.proofs.lemmas.List.Sums.{prefix_len-le-length, prefix_len_passes, prefix_len_stops}
 pub use Rattle.checks.proofs.LowestLaw.{lowest_is}
 
 -- ---- one number, against a limit m + 1
@@ -72,6 +74,15 @@ one_off l e = by_test (ltb (lowest_off l) (length l)) refl
     by_test true f = refl
     by_test false f =
         absurd ((all_on_says l).no e (λ k p. le-leb (nat_abs (get_or l k (pos 0))) limit (all_on_law l (ltb-false (lowest_off l) (length l) f) k)))
+
+-- Found by the library: so many are on the grid before the first that is not.
+pub position_lowest : (l : List ℤ) → position_or_len (λ z. not (on_grid z)) l ≡ lowest_off l
+position_lowest l =
+    let test : ℤ → Bool = λ z. not (not (on_grid z)) in
+    let twice : (t : Bool) → not (not t) ≡ t = elim [ true ↦ refl | false ↦ refl ] in
+    lowest_is l _ (prefix_len-le-length test l)
+    (λ k h. sym (twice (on_grid (get_or l k (pos 0)))) ∙ prefix_len_passes test l k (pos 0) h)
+    (λ h. sym (twice (on_grid (get_or l _ (pos 0)))) ∙ prefix_len_stops test l (pos 0) h)
 
 -- Some number of the list is off the grid.
 pub record SomeOff (l : List ℤ) : Type 0 where

@@ -5,6 +5,7 @@
 --   CheckLaws     what each check finds, by its cases
 --   Tables        what an answer gives, and tables of cases for it
 --   Passing       what is known of shapes that the checks passed
+--   ReadBack      a refusal read back off what it tells
 -- and rows of the definition:
 --   GridRows      the ends of the grid, and one farther
 pub mod AnswerLaws
@@ -14,3 +15,4 @@ pub mod CheckLaws
 pub mod Tables
 pub mod Passing
 pub mod GridRows
+pub mod ReadBack

@@ -1,5 +1,6 @@
 -- What the contracts of every call cite of refusals.
 pub mod Answers
 pub mod Grid
+pub mod Reasons
 pub mod Rules
 pub mod Told

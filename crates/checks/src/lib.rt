@@ -6,6 +6,6 @@ mod answer;
 mod grid;
 mod shapes;
 
-pub use answer::Refusal;
-pub use grid::{Checked, all_on, grid_checked, grids_checked, length_checked};
+pub use answer::{Reason, Refusal};
+pub use grid::{all_on, grid_checked, grids_checked, length_checked, off_grid};
 pub use shapes::{flat_test_checked, in_space_checked, shape_checked};

@@ -6,63 +6,51 @@ ghost use Rattle.checks.specs.Answers.{refused, fine, ◌then◌};
 ghost use Rattle.checks.specs.Told.{told_check};
 ghost use Rattle.checks.specs.Rules.{refuses_flat, takes_flat, shape_checks, pair_checks};
 
-use crate::answer::Refusal;
-use crate::grid::{Checked, grid_checked, grids_checked, lengths_checked};
+use crate::answer::{Reason, Refusal};
+use crate::grid::{grid_checked, grids_checked, lengths_checked};
 use kernel::{Kind, is_flat};
 
 // Refusal 2.
-fn flat_checked(side: u32, flat: bool) -> Checked
+fn flat_checked(side: u32, flat: bool) -> Result<(), Refusal>
     ensures { told_check result ≡ cond flat (refused 2 side 0) fine }
 {
     if flat {
-        return Checked::Refused(Refusal {
-            number: 2,
-            side: side,
-            place: 0,
-        });
+        return Err(Refusal::new(Reason::FlatShape, side, 0));
     }
-    Checked::Fine
+    Ok(())
 }
 
 // Refusal 1, then 2, of a triangle.
-pub fn shape_checked(kind: Kind, side: u32, numbers: &[i32]) -> Checked
+pub fn shape_checked(kind: Kind, side: u32, numbers: &[i32]) -> Result<(), Refusal>
     requires { length numbers.now ≡ 3 * coordinates_of kind }
     ensures { told_check result ≡ shape_checks refuses_flat (coordinates_of kind) 3 side numbers.now }
 {
-    match grid_checked(side, numbers) {
-        Checked::Refused(why) => Checked::Refused(why),
-        Checked::Fine => flat_checked(side, is_flat(kind, numbers)),
-    }
+    grid_checked(side, numbers)?;
+    flat_checked(side, is_flat(kind, numbers))
 }
 
 // Two triangles in the plane whose lists have the right lengths.
-fn plane_triangles_checked(first: &[i32], second: &[i32]) -> Checked
+fn plane_triangles_checked(first: &[i32], second: &[i32]) -> Result<(), Refusal>
     requires { (length first.now ≡ 6) × (length second.now ≡ 6) }
     ensures { told_check result ≡ shape_checks refuses_flat 2 3 0 first.now then shape_checks refuses_flat 2 3 1 second.now }
 {
-    match shape_checked(Kind::PlaneTriangle, 0, first) {
-        Checked::Refused(why) => Checked::Refused(why),
-        Checked::Fine => shape_checked(Kind::PlaneTriangle, 1, second),
-    }
+    shape_checked(Kind::PlaneTriangle, 0, first)?;
+    shape_checked(Kind::PlaneTriangle, 1, second)
 }
 
 // The flat test: two triangles in the plane, six numbers each.
-pub fn flat_test_checked(first: &[i32], second: &[i32]) -> Checked
+pub fn flat_test_checked(first: &[i32], second: &[i32]) -> Result<(), Refusal>
     ensures { told_check result ≡ pair_checks refuses_flat 2 3 3 first.now second.now }
 {
-    match lengths_checked(6, first, 6, second) {
-        Checked::Refused(why) => Checked::Refused(why),
-        Checked::Fine => plane_triangles_checked(first, second),
-    }
+    lengths_checked(6, first, 6, second)?;
+    plane_triangles_checked(first, second)
 }
 
 // A call in space on a segment (two corners) or a triangle (three), and a triangle.
-pub fn in_space_checked(corners: usize, first: &[i32], second: &[i32]) -> Checked
+pub fn in_space_checked(corners: usize, first: &[i32], second: &[i32]) -> Result<(), Refusal>
     requires { corners ≤ 3 }
     ensures { told_check result ≡ pair_checks takes_flat 3 corners 3 first.now second.now }
 {
-    match lengths_checked(corners * 3, first, 9, second) {
-        Checked::Refused(why) => Checked::Refused(why),
-        Checked::Fine => grids_checked(first, second),
-    }
+    lengths_checked(corners * 3, first, 9, second)?;
+    grids_checked(first, second)
 }

@@ -1,5 +1,5 @@
 -- The stages of a word (specs/Stages.antt): numbers and bits that a loop leaves at the places that are asked, the lowest first. Assumes nothing.
-use mathlib.Core.Path.{◌≡◌, refl, sym, ap, ◌∙◌}
+use mathlib.Core.Path.{◌≡◌, refl, sym, ◌∙◌}
 use mathlib.Core.Bool.{Bool, true, false}
 use mathlib.Core.List.{List}
 use Prim.Native.Nat.{ℕ, ◌+◌, ◌*◌, ◌^◌, ◌<◌}
@@ -15,12 +15,14 @@ use mir.Val.{bool_byte}
 use Rattle.exact.specs.Small.{narrow, Narrow, BothNarrow}
 use Rattle.exact.proofs.GridLaws.{small_taken, small_dropped}
 use Rattle.kernel.specs.Standings.{SeemToMeet}
-use Rattle.words.specs.Bits.{bit, Lowest}
+use Rattle.words.specs.Bits.{bit, Lowest, Takes}
 use Rattle.words.proofs.LowestLaws.{lowest_is_set, others_stay}
 use Rattle.words.proofs.BitLaws.{bit_of_none}
 use Rattle.words.proofs.Filling.{both, put, put_here, put_other, Filled, filled_starts, filled_on, filled_told}
 use Rattle.boxes.specs.Triangles.{nine}
-use Rattle.deciding.specs.Stages.{lined, Clear, Told, Marked, CrossedAt, Parted}
+use Rattle.deciding.specs.declared.verdicts.Stances.{Stances}
+use Rattle.deciding.specs.Places.{lined}
+use Rattle.deciding.specs.Stages.{Clear, Told, Marked, CrossedAt, Parted, Faced, Numbering}
 
 -- ---- the numbers of a part of a narrow list
 pub narrow_nine : (i : ℕ) (numbers : List ℤ) → Narrow numbers → Narrow (nine i numbers)
@@ -40,16 +42,16 @@ pub marked : {Right : ℕ → Bool → Type 0} {start asked word : ℕ} → Fill
 marked filled = record { small = filled.small; right = λ z set. filled.right z set (bit_of_none z); stays = filled.stays }
 
 -- ---- a number at each place, and a bit in each of two words that tells something of it
-pub record Sorting (Says : ℕ → ℕ → Type 0) (f g : ℕ → Bool) (asked one two : ℕ) (before : List ℕ) (left : ℕ) (after : List ℕ) (first second : ℕ) : Type 0 where
+pub record Sorting (Says : ℕ → ℕ → Type 0) (First Second : ℕ → Bool → Type 0) (asked one two : ℕ) (before : List ℕ) (left : ℕ) (after : List ℕ) (first second : ℕ) : Type 0 where
   pub long : length after ≡ 64
   pub says : (z : ℕ) → bit z asked ≡ true → bit z left ≡ false → Says z (get_or after z 0)
   pub stays : (z : ℕ) → bit z asked ≡ false → get_or after z 0 ≡ get_or before z 0
-  pub by_first : Filled (λ z b. b ≡ f (get_or after z 0)) one asked left first
-  pub by_second : Filled (λ z b. b ≡ g (get_or after z 0)) two asked left second
+  pub by_first : Filled (λ z b. First (get_or after z 0) b) one asked left first
+  pub by_second : Filled (λ z b. Second (get_or after z 0) b) two asked left second
 
-pub sorting_starts : {Says : ℕ → ℕ → Type 0} {f g : ℕ → Bool} {asked one two : ℕ} {before : List ℕ} → length before ≡ 64 →
+pub sorting_starts : {Says : ℕ → ℕ → Type 0} {First Second : ℕ → Bool → Type 0} {asked one two : ℕ} {before : List ℕ} → length before ≡ 64 →
     ((z : ℕ) → bit z asked ≡ true → bit z one ≡ false) → ((z : ℕ) → bit z asked ≡ true → bit z two ≡ false) →
-    Sorting Says f g asked one two before asked before one two
+    Sorting Says First Second asked one two before asked before one two
 sorting_starts long none-one none-two = record {
   long = long;
   says = λ z set clear. both set clear;
@@ -58,24 +60,23 @@ sorting_starts long none-one none-two = record {
   by_second = filled_starts none-two;
 }
 
--- A flag at place z that code made of what is to be told.
-pub flagged : (z : ℕ) {v w : Bool} {flag : ℕ} → flag ≡ bool_byte v * 2 ^ z → v ≡ w → flag ≡ bool_byte w * 2 ^ z
-flagged z e same = e ∙ ap (λ (b : Bool). bool_byte b * 2 ^ z) same
-
 -- The lowest place gets its number and its bits.
-pub sorting_on : {Says : ℕ → ℕ → Type 0} {f g : ℕ → Bool} {asked one two : ℕ} {before : List ℕ} {left next first second z s a b : ℕ} {after : List ℕ} →
-    Sorting Says f g asked one two before left after first second → Lowest z left next → z < 64 → Says z s →
-    a ≡ bool_byte (f s) * 2 ^ z → b ≡ bool_byte (g s) * 2 ^ z → Sorting Says f g asked one two before next (set after z s) (first + a) (second + b)
-sorting_on {Says} {f} {g} {asked} {one} {two} {before} {left} {next} {first} {second} {z} {s} {after = after} so_far low inside this ea eb = rw (ea, eb) (record {
+pub sorting_on : {Says : ℕ → ℕ → Type 0} {First Second : ℕ → Bool → Type 0} {asked one two : ℕ} {before : List ℕ} {left next first second z s a b : ℕ} {after : List ℕ} {v w : Bool} →
+    Sorting Says First Second asked one two before left after first second → Takes left z next → Says z s →
+    First s v → Second s w → a ≡ bool_byte v * 2 ^ z → b ≡ bool_byte w * 2 ^ z → Sorting Says First Second asked one two before next (set after z s) (first + a) (second + b)
+sorting_on {Says} {First} {Second} {asked} {one} {two} {before} {left} {next} {first} {second} {z} {s} {after = after} {v} {w} so_far step this here_v here_w ea eb = rw (ea, eb) (record {
   long = length-set after z s ∙ so_far.long;
   says = says;
   stays = λ y clear. elsewhere y (λ e. both (so_far.by_first.still_asked z (lowest_is_set low)) (rw (← e) clear)) ∙ so_far.stays y clear;
-  by_first = filled_on (filled_told so_far.by_first (λ y clear e. e ∙ ap f (sym (elsewhere y (other y clear))))) low (ap f (sym here));
-  by_second = filled_on (filled_told so_far.by_second (λ y clear e. e ∙ ap g (sym (elsewhere y (other y clear))))) low (ap g (sym here));
+  by_first = filled_on {v = v} (filled_told so_far.by_first (λ y clear e. rw (elsewhere y (other y clear)) e)) low (rw here here_v);
+  by_second = filled_on {v = w} (filled_told so_far.by_second (λ y clear e. rw (elsewhere y (other y clear)) e)) low (rw here here_w);
 })
   where
+    low : Lowest z left next
+    low = step.lowest
+
     here : get_or (set after z s) z 0 ≡ s
-    here = get_or-set_same after z s 0 (omega (arith, so_far.long))
+    here = get_or-set_same after z s 0 (omega (arith, so_far.long, step.within))
 
     elsewhere : (y : ℕ) → (y ≡ z → ⊥) → get_or (set after z s) y 0 ≡ get_or after y 0
     elsewhere y apart = get_or-set_other after z y s 0 apart
@@ -90,67 +91,15 @@ sorting_on {Says} {f} {g} {asked} {one} {two} {before} {left} {next} {first} {se
         by_place (yes e) = rw (e, here) this
         by_place (no apart) = rw (elsewhere y apart) (so_far.says y Asked-here (sym (others_stay low y apart) ∙ clear))
 
-pub sorting_ends : {Says : ℕ → ℕ → Type 0} {f g : ℕ → Bool} {asked one two : ℕ} {before after : List ℕ} {first second : ℕ} →
-    Sorting Says f g asked one two before 0 after first second →
-    Told Says asked before after × Marked (λ z b. b ≡ f (get_or after z 0)) one asked first × Marked (λ z b. b ≡ g (get_or after z 0)) two asked second
+pub sorting_ends : {Says : ℕ → ℕ → Type 0} {First Second : ℕ → Bool → Type 0} {asked one two : ℕ} {before after : List ℕ} {first second : ℕ} →
+    Sorting Says First Second asked one two before 0 after first second →
+    Told Says asked before after × Marked (λ z b. First (get_or after z 0) b) one asked first × Marked (λ z b. Second (get_or after z 0) b) two asked second
 sorting_ends so_far = (
   record { long = so_far.long; says = λ z set. so_far.says z set (bit_of_none z); stays = so_far.stays },
   marked so_far.by_first,
   marked so_far.by_second,
 )
 
--- ---- two bits at each place
-pub record Parting (Right : ℕ → Bool → Bool → Type 0) (asked close left kept other : ℕ) : Type 0 where
-  pub by_kept : Filled (λ z b. Unit {0}) 0 asked left kept
-  pub by_other : Filled (λ z b. Unit {0}) close asked left other
-  pub right : (z : ℕ) → bit z asked ≡ true → bit z left ≡ false → Right z (bit z kept) (bit z other)
-
-pub parting_starts : {Right : ℕ → Bool → Bool → Type 0} {asked close : ℕ} → Clear asked close → Parting Right asked close asked 0 close
-parting_starts clear = record {
-  by_kept = filled_starts (λ z set. bit_of_none z);
-  by_other = filled_starts clear;
-  right = λ z set none. both set none;
-}
-
-pub parting_on : {Right : ℕ → Bool → Bool → Type 0} {asked close left next kept other z a b : ℕ} {v w : Bool} →
-    Parting Right asked close left kept other → Lowest z left next → Right z v w → a ≡ bool_byte v * 2 ^ z → b ≡ bool_byte w * 2 ^ z →
-    Parting Right asked close next (kept + a) (other + b)
-parting_on {Right} {asked} {close} {left} {next} {kept} {other} {z} {v = v} {w} so_far low this ea eb = rw (ea, eb) (record {
-  by_kept = filled_on {v = v} so_far.by_kept low tt;
-  by_other = filled_on {v = w} so_far.by_other low tt;
-  right = right;
-})
-  where
-    none_kept : bit z kept ≡ false
-    none_kept = so_far.by_kept.open_yet z (lowest_is_set low)
-
-    none_other : bit z other ≡ false
-    none_other = so_far.by_other.open_yet z (lowest_is_set low)
-
-    right : (y : ℕ) → bit y asked ≡ true → bit y next ≡ false → Right y (bit y (put z kept v)) (bit y (put z other w))
-    right y Asked-here clear = by_place (ℕ_discrete y z)
-      where
-        by_place : Dec (y ≡ z) → Right y (bit y (put z kept v)) (bit y (put z other w))
-        by_place (yes e) = rw (e, put_here z kept none_kept v, put_here z other none_other w) this
-        by_place (no apart) =
-            rw (put_other z kept none_kept v y apart, put_other z other none_other w y apart)
-            (so_far.right y Asked-here (sym (others_stay low y apart) ∙ clear))
-
-pub parting_ends : {Right : ℕ → Bool → Bool → Type 0} {asked close kept other : ℕ} → Parting Right asked close 0 kept other →
-    Parted Right asked close kept other
-parting_ends so_far = record {
-  kept_small = λ n few. so_far.by_kept.small n (pow_pos n) few;
-  kept_none = λ z none. so_far.by_kept.stays z none ∙ bit_of_none z;
-  other_small = so_far.by_other.small;
-  other_stays = so_far.by_other.stays;
-  right = λ z set. so_far.right z set (bit_of_none z);
-}
-
--- What the estimate of the last signs says, as two bits.
-pub crossed_at : {corners second : List ℤ} {own standings : List ℕ} {from z v : ℕ} →
-    SeemToMeet corners (lined second from 1 z) (get_or own z 0) (get_or standings z 0) v →
-    CrossedAt corners own second standings from z (eqb v 1) (ltb 1 v)
-crossed_at {v = v} seems = record {
-  told = λ few. sym (seems (omega (arith, ltb-false 1 v few)));
-  not_told = λ many. ne_eqb v 1 (λ e. omega (arith, ltb-true 1 v many));
-}
+-- The pair of a place that is asked, and its numbers.
+pub faced : {s : Stances} {asked z : ℕ} → Numbering s asked → bit z asked ≡ true → z < 64 → Faced s z
+faced numbering set within = record { pair = numbering.posed _ set; first = omega (arith, numbering.first); second = omega (arith, numbering.second) }

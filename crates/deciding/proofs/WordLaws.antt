@@ -1,205 +1,230 @@
 -- Words of verdicts (specs/Words.antt): a word that is decided in stages, and words that are stored one after the other. Assumes nothing.
-use mathlib.Core.Path.{◌≡◌, refl, sym, ap, ap₂, ◌∙◌}
+use mathlib.Core.Path.{◌≡◌, refl, sym, ap, ap₂, subst, ◌∙◌}
 use mathlib.Core.Bool.{Bool, true, false}
 use mathlib.Core.List.{List}
 use mathlib.Core.Logic.{◌⊎◌, inl, inr}
 use Prim.Native.Nat.{ℕ, zero, suc, ◌+◌, ◌*◌, ◌/◌, ◌^◌, ◌<◌, ◌≤◌}
 use native.Mathlib.Omega.{arith}
-use lib.Ieee.{Float}
 use lib.IntN.{ℤ}
 use lib.ListN.{length, get_or, set}
 use lib.Pow.{pow_pos}
-use lib.Seq.{take_all, get_or-set_same, get_or-set_other}
+use lib.Seq.{get_or-set_same, get_or-set_other}
 use Rattle.algebra.proofs.Copying.{written_hold}
 use Rattle.shape.specs.Points.{points_at}
 use Rattle.shape.specs.Sharing.{Share}
 use Rattle.shape.proofs.Trading.{share_trade}
 use Rattle.shape.proofs.VerdictLaws.{says_no}
 use Rattle.kernel.specs.Meeting.{Judges}
-use Rattle.exact.specs.Vectors.{normal_in, plane_row}
-use Rattle.kernel.specs.Standings.{IsPlane, Stood}
+use Rattle.kernel.specs.Standings.{Stood}
 use Rattle.words.specs.Bits.{bit, ones}
 use Rattle.words.specs.Spans.{first_of, span}
 use Rattle.words.proofs.BitLaws.{bit_of_none, set_within, few_ones}
 use Rattle.words.proofs.Filling.{both}
-use Rattle.boxes.specs.Boxes.{three, Boxed, Known, Prepared, Planned}
+use Rattle.boxes.specs.Boxes.{Boxed, Prepared, Planned}
 use Rattle.boxes.specs.Triangles.{triangles, nine}
 use Rattle.sifting.specs.Tables.{CandidatesBelow}
 use Rattle.sifting.proofs.EndLaws.{boxes_reach}
-use Rattle.deciding.specs.Stages.{index_of, lined, Clear, Among, Lined, Normalled, Planed, Parted, SortedAt, AllAlone, AllStood, Judged}
+use Rattle.deciding.specs.declared.places.Row.{Row}
+use Rattle.deciding.specs.declared.places.Pairs.{Pairs}
+use Rattle.deciding.specs.declared.verdicts.Stances.{Stances}
+use Rattle.deciding.specs.declared.deciding.Lists.{Lists}
+use Rattle.deciding.specs.Places.{index_of, lined, turned, Meant, Planed, Posed}
+use Rattle.deciding.specs.Lists.{Readied}
+use Rattle.deciding.specs.Stages.{Clear, Marked, Parted, SortedAt, AllAlone, JudgedAt, Judged}
 use Rattle.deciding.specs.Words.{MayMeet, MayMeetBelow, Verdicts, ones_below, VerdictsBelow, Decided}
+use Rattle.deciding.proofs.StageLaws.{narrow_nine}
 use Rattle.deciding.proofs.Rounds.{exclusive}
 
+-- The places of one word are among those of another.
+abbrev Among : (some asked : ℕ) → Type 0
+Among some asked = (z : ℕ) → bit z some ≡ true → bit z asked ≡ true
+
 -- ---- a word that is decided in stages
--- The triangle itself, for every place.
-pub lined_alone : (corners : List ℤ) → length corners ≡ 9 → (z : ℕ) → lined corners 0 0 z ≡ corners
-lined_alone corners long z =
-    ap (λ (i : ℕ). nine i corners) {x = 0 + 0 * z} {y = 0} (omega arith) ∙ take_all 9 corners (omega arith)
+-- A list that is prepared has a triangle, and its normal, for each index that is below its number; and its plane, if it is planned.
+meant : (row : Row) (z : ℕ) → Prepared row.bed.numbers.now row.bed.normals.now → index_of row z < triangles row.bed.numbers.now → Meant row z
+meant row z prepared there = record {
+  there = there;
+  ready = prepared.sound.ready (index_of row z) there;
+  room = omega (arith, there, prepared.room);
+  normal = prepared.normal (index_of row z) there;
+}
 
--- The triangle of the second list.
-pub lined_second : (second : List ℤ) (from z : ℕ) → lined second from 1 z ≡ nine (from + z) second
-lined_second second from z = ap (λ (i : ℕ). nine i second) {x = from + 1 * z} {y = from + z} (omega arith)
+planed : (row : Row) (z : ℕ) → Planned row.bed.numbers.now row.bed.planes.now → index_of row z < triangles row.bed.numbers.now → Planed row z
+planed row z planned there = record { room = omega (arith, there, planned.room); plane = planned.plane (index_of row z) there }
 
--- The triangle serves every place.
-module _ {corners normal : List ℤ} (known : Known corners normal) (asked : ℕ) where
-  same : (z : ℕ) → lined corners 0 0 z ≡ corners
-  same = lined_alone corners known.ready.long
+-- The pairs of word k of two lists.
+abbrev pub pairs_of : Lists → ℕ → Pairs
+pairs_of l k = record {
+  narrow = l.narrow;
+  first = record { bed = l.first; from = k / 16; step = 0 };
+  second = record { bed = l.second; from = first_of k; step = 1 };
+}
 
-  three_alone : {A : Type 0} (row : List A) → length row ≡ 3 → (z : ℕ) → three (index_of 0 0 z) row ≡ row
-  three_alone row long z = ap (λ (i : ℕ). three i row) {x = 0 + 0 * z} {y = 0} (omega arith) ∙ take_all 3 row (omega arith)
-
-  pub corners_lined : Lined corners 0 0 asked
-  corners_lined = record {
-    few = omega arith;
-    single = omega arith;
-    there = λ z set. omega (arith, known.ready.long);
-    ready = λ z set. rw (same z) known.ready;
+module _ (l : Lists) (k : ℕ) {candidates : ℕ} where
+  -- Each candidate means a pair.
+  pub word_posed : Readied l → k < triangles l.first.numbers.now * 16 → candidates < 2 ^ span (triangles l.second.numbers.now) (first_of k) →
+      Posed (pairs_of l k) candidates
+  word_posed readied inside small z set = record {
+    first = meant (pairs_of l k).first z readied.first one;
+    second = meant (pairs_of l k).second z readied.second two;
+    planed = λ wide. (planed (pairs_of l k).first z (readied.planned wide).0 one, planed (pairs_of l k).second z (readied.planned wide).1 two);
+    small = λ flag. (narrow_nine _ _ (readied.small flag).0, narrow_nine _ _ (readied.small flag).1);
   }
+    where
+      one : k / 16 + 0 * z < triangles l.first.numbers.now
+      one = omega arith
 
-  pub corners_normalled : Normalled corners normal 0 0 asked
-  corners_normalled =
-      let long : length normal ≡ 3 = ap length known.is_normal in
-      record {
-        room = λ z set. omega (arith, long);
-        normal = λ z set. three_alone normal long z ∙ known.is_normal ∙ ap normal_in (sym (same z));
-      }
+      two : first_of k + 1 * z < triangles l.second.numbers.now
+      two = omega (arith, set_within z (span (triangles l.second.numbers.now) (first_of k)) candidates small set)
 
-  pub corners_planed : {plane : List Float} → IsPlane corners plane → Planed corners plane 0 0 asked
-  corners_planed {plane} is-plane =
-      let long : length plane ≡ 3 = ap length is-plane in
-      record {
-        room = λ z set. omega (arith, long);
-        plane = λ z set. three_alone plane long z ∙ is-plane ∙ ap plane_row (sym (same z));
-      }
+  -- The verdicts on the candidates are those on all pairs of the word, since what is no candidate is apart.
+  pub word_decided : {n word : ℕ} → MayMeet (nine (k / 16) l.first.numbers.now) l.second.numbers.now (first_of k) n candidates →
+      Marked (JudgedAt (pairs_of l k)) 0 candidates word → Verdicts (nine (k / 16) l.first.numbers.now) l.second.numbers.now (first_of k) n word
+  word_decided {n} {word} may marks = record { small = marks.small n (pow_pos n) may.small; right = right }
+    where
+      one : (z : ℕ) → lined (pairs_of l k).first z ≡ nine (k / 16) l.first.numbers.now
+      one z = ap (λ (i : ℕ). nine i l.first.numbers.now) {x = k / 16 + 0 * z} {y = k / 16} (omega arith)
 
--- The second list has a triangle for each candidate.
-module _ {second normals : List ℤ} (prepared : Prepared second normals) {from candidates : ℕ} (few : from ≤ 1024)
-    (small : candidates < 2 ^ span (triangles second) from) where
-  inside : (z : ℕ) → bit z candidates ≡ true → index_of from 1 z < triangles second
-  inside z set = omega (arith, set_within z (span (triangles second) from) candidates small set)
+      two : (z : ℕ) → lined (pairs_of l k).second z ≡ nine (first_of k + z) l.second.numbers.now
+      two z = ap (λ (i : ℕ). nine i l.second.numbers.now) {x = first_of k + 1 * z} {y = first_of k + z} (omega arith)
 
-  pub second_lined : Lined second from 1 candidates
-  second_lined = record { few = few; single = omega arith; there = inside; ready = λ z set. prepared.sound.ready (index_of from 1 z) (inside z set) }
+      right : (z : ℕ) → z < n → Judges 3 3 3 (nine (k / 16) l.first.numbers.now) (nine (first_of k + z) l.second.numbers.now) (bit z word)
+      right z h = by_bit (bit z candidates) refl
+        where
+          by_bit : (b : Bool) → bit z candidates ≡ b → Judges 3 3 3 (nine (k / 16) l.first.numbers.now) (nine (first_of k + z) l.second.numbers.now) (bit z word)
+          by_bit true e = rw (← (one z), ← (two z)) (marks.right z e).judges
+          by_bit false e = rw (marks.stays z e, bit_of_none z) (says_no (λ shared. both (may.set z h shared) e))
 
-  pub second_normalled : Normalled second normals from 1 candidates
-  second_normalled = record {
-    room = λ z set. omega (arith, inside z set, prepared.room);
-    normal = λ z set. prepared.normal (index_of from 1 z) (inside z set);
+-- ---- the stages of a word
+-- The pairs may be turned.
+pub posed_turned : {p : Pairs} {asked : ℕ} → Posed p asked → Posed (turned p) asked
+posed_turned posed z set =
+    let pair = posed z set in
+    record {
+      first = pair.second;
+      second = pair.first;
+      planed = λ wide. ((pair.planed wide).1, (pair.planed wide).0);
+      small = λ flag. ((pair.small flag).1, (pair.small flag).0);
+    }
+
+pub parted_turned : (p : Pairs) {q : Pairs} {standings : List ℕ} {asked close kept other : ℕ} → q ≡ turned p →
+    Parted (SortedAt q standings) asked close kept other → Parted (SortedAt (turned p) standings) asked close kept other
+parted_turned p {q} {standings} {asked} {close} {kept} {other} = subst (λ (t : Pairs). Parted (SortedAt t standings) asked close kept other)
+
+module _ {p : Pairs} {standings : List ℕ} {candidates kept other : ℕ} (first : Parted (SortedAt (turned p) standings) candidates 0 kept other) where
+  -- What is left of the candidates were candidates.
+  pub kept_candidates : Among kept candidates
+  kept_candidates z set = by_bit (bit z candidates) refl
+    where
+      by_bit : (b : Bool) → bit z candidates ≡ b → bit z candidates ≡ true
+      by_bit true e = e
+      by_bit false e = both set (first.kept_none z e)
+
+  other_candidates : Among other candidates
+  other_candidates z set = by_bit (bit z candidates) refl
+    where
+      by_bit : (b : Bool) → bit z candidates ≡ b → bit z candidates ≡ true
+      by_bit true e = e
+      by_bit false e = both set (first.other_stays z e ∙ bit_of_none z)
+
+  pub kept_clear : Clear kept other
+  kept_clear z set = exclusive (first.right z (kept_candidates z set)) set
+
+module _ {p : Pairs} {own standings : List ℕ} {candidates kept other alone close : ℕ} (first : Parted (SortedAt (turned p) standings) candidates 0 kept other)
+    (second_stage : Parted (SortedAt p own) kept other alone close) where
+  alone_kept : Among alone kept
+  alone_kept z set = by_bit (bit z kept) refl
+    where
+      by_bit : (b : Bool) → bit z kept ≡ b → bit z kept ≡ true
+      by_bit true e = e
+      by_bit false e = both set (second_stage.kept_none z e)
+
+  pub alone_candidates : Among alone candidates
+  alone_candidates z set = kept_candidates first z (alone_kept z set)
+
+  -- A close pair was found so by the first stage, or by the second.
+  close_case : (z : ℕ) → bit z close ≡ true → (bit z kept ≡ true) ⊎ (bit z other ≡ true)
+  close_case z set = by_bit (bit z kept) refl
+    where
+      by_bit : (b : Bool) → bit z kept ≡ b → (bit z kept ≡ true) ⊎ (bit z other ≡ true)
+      by_bit true e = inl e
+      by_bit false e = inr (sym (second_stage.other_stays z e) ∙ set)
+
+  pub close_candidates : Among close candidates
+  close_candidates z set = by_case (close_case z set)
+    where
+      by_case : (bit z kept ≡ true) ⊎ (bit z other ≡ true) → bit z candidates ≡ true
+      by_case (inl e) = kept_candidates first z e
+      by_case (inr e) = other_candidates first z e
+
+  pub alone_clear : Clear alone close
+  alone_clear z set = exclusive (second_stage.right z (alone_kept z set)) set
+
+  -- The standings of the close pairs are known.
+  pub all_stood : (z : ℕ) → bit z close ≡ true → Stood (lined p.first z) (lined p.second z) (get_or own z 0) (get_or standings z 0)
+  all_stood z set = by_case (close_case z set)
+    where
+      by_case : (bit z kept ≡ true) ⊎ (bit z other ≡ true) → Stood (lined p.first z) (lined p.second z) (get_or own z 0) (get_or standings z 0)
+      by_case (inl e) =
+          let one = first.right z (kept_candidates first z e) in
+          let two = second_stage.right z e in
+          record {
+            second = one.alone e;
+            near_first = λ r0. omega (arith, one.near e);
+            first = λ r1. two.within set;
+            near_second = λ r1 s0. omega (arith, two.close set);
+          }
+      by_case (inr e) =
+          let one = first.right z (other_candidates first z e) in
+          record {
+            second = one.within e;
+            near_first = λ r0. omega (arith, one.close e);
+            first = λ r1. absurd (r1 (one.close e));
+            near_second = λ r1. absurd (r1 (one.close e));
+          }
+
+  -- What is neither alone nor close has no point in common with the triangle.
+  apart : (z : ℕ) → bit z candidates ≡ true → bit z alone ≡ false → bit z close ≡ false →
+      Share 3 (points_at 3 3 0 (lined p.first z)) (points_at 3 3 0 (lined p.second z)) → ⊥
+  apart z met none-alone none-close shared = by_bits (bit z kept) (bit z other) refl refl
+    where
+      by_bits : (k o : Bool) → bit z kept ≡ k → bit z other ≡ o → ⊥
+      by_bits true o e f = (second_stage.right z e).apart none-alone none-close shared
+      by_bits false true e f = both f (sym (second_stage.other_stays z e) ∙ none-close)
+      by_bits false false e f = (first.right z met).apart e f (share_trade shared)
+
+  pub all_judged : {word : ℕ} → Judged p alone close word → Marked (JudgedAt p) 0 candidates word
+  all_judged {word} judged = record {
+    small = λ n none few.
+        judged.small n (second_stage.kept_small n (first.kept_small n few))
+        (second_stage.other_small n (first.other_small n (pow_pos n) few) (first.kept_small n few));
+    right = right;
+    stays = λ z clear. judged.none z (none_alone z clear) (none_close z clear) ∙ sym (bit_of_none z);
   }
+    where
+      right : (z : ℕ) → bit z candidates ≡ true → JudgedAt p z (bit z word)
+      right z met = by_bits (bit z alone) (bit z close) refl refl
+        where
+          by_bits : (a c : Bool) → bit z alone ≡ a → bit z close ≡ c → JudgedAt p z (bit z word)
+          by_bits true c e f = judged.right z (inl e)
+          by_bits false true e f = judged.right z (inr f)
+          by_bits false false e f = record { judges = rw (judged.none z e f) (says_no (apart z met e f)) }
 
-  pub second_planed : {planes : List Float} → Planned second planes → Planed second planes from 1 candidates
-  second_planed planned = record {
-    room = λ z set. omega (arith, inside z set, planned.room);
-    plane = λ z set. planned.plane (index_of from 1 z) (inside z set);
+      none_alone : (z : ℕ) → bit z candidates ≡ false → bit z alone ≡ false
+      none_alone z clear = second_stage.kept_none z (first.kept_none z clear)
+
+      none_close : (z : ℕ) → bit z candidates ≡ false → bit z close ≡ false
+      none_close z clear = second_stage.other_stays z (first.kept_none z clear) ∙ first.other_stays z clear ∙ bit_of_none z
+
+module _ {s : Stances} {candidates kept other alone close : ℕ} (first : Parted (SortedAt (turned s.pairs) s.second.now) candidates 0 kept other)
+    (second_stage : Parted (SortedAt s.pairs s.first.now) kept other alone close) where
+  pub all_alone : AllAlone s alone
+  all_alone = record {
+    stands_first = λ z set. (second_stage.right z (alone_kept first second_stage z set)).alone set;
+    near_second = λ z set. (second_stage.right z (alone_kept first second_stage z set)).near set;
+    stands_second = λ z set. (first.right z (alone_candidates first second_stage z set)).alone (alone_kept first second_stage z set);
+    near_first = λ z set. (first.right z (alone_candidates first second_stage z set)).near (alone_kept first second_stage z set);
   }
-
-module _ {corners second : List ℤ} {from n candidates : ℕ} (long : length corners ≡ 9) (may : MayMeet corners second from n candidates) where
-  module _ {standings : List ℕ} {kept other : ℕ} (first : Parted (SortedAt second corners from 1 0 0 standings) candidates 0 kept other) where
-    -- What is left of the candidates were candidates.
-    pub kept_candidates : Among kept candidates
-    kept_candidates z set = by_bit (bit z candidates) refl
-      where
-        by_bit : (b : Bool) → bit z candidates ≡ b → bit z candidates ≡ true
-        by_bit true e = e
-        by_bit false e = both set (first.kept_none z e)
-
-    other_candidates : Among other candidates
-    other_candidates z set = by_bit (bit z candidates) refl
-      where
-        by_bit : (b : Bool) → bit z candidates ≡ b → bit z candidates ≡ true
-        by_bit true e = e
-        by_bit false e = both set (first.other_stays z e ∙ bit_of_none z)
-
-    pub kept_clear : Clear kept other
-    kept_clear z set = exclusive (first.right z (kept_candidates z set)) set
-
-    module _ {own : List ℕ} {alone close : ℕ} (second_stage : Parted (SortedAt corners second 0 0 from 1 own) kept other alone close) where
-      alone_kept : Among alone kept
-      alone_kept z set = by_bit (bit z kept) refl
-        where
-          by_bit : (b : Bool) → bit z kept ≡ b → bit z kept ≡ true
-          by_bit true e = e
-          by_bit false e = both set (second_stage.kept_none z e)
-
-      pub alone_candidates : Among alone candidates
-      alone_candidates z set = kept_candidates z (alone_kept z set)
-
-      -- A close pair was found so by the first stage, or by the second.
-      close_case : (z : ℕ) → bit z close ≡ true → (bit z kept ≡ true) ⊎ (bit z other ≡ true)
-      close_case z set = by_bit (bit z kept) refl
-        where
-          by_bit : (b : Bool) → bit z kept ≡ b → (bit z kept ≡ true) ⊎ (bit z other ≡ true)
-          by_bit true e = inl e
-          by_bit false e = inr (sym (second_stage.other_stays z e) ∙ set)
-
-      pub close_candidates : Among close candidates
-      close_candidates z set = by_case (close_case z set)
-        where
-          by_case : (bit z kept ≡ true) ⊎ (bit z other ≡ true) → bit z candidates ≡ true
-          by_case (inl e) = kept_candidates z e
-          by_case (inr e) = other_candidates z e
-
-      pub alone_clear : Clear alone close
-      alone_clear z set = exclusive (second_stage.right z (alone_kept z set)) set
-
-      pub all_alone : AllAlone corners own second standings from alone
-      all_alone = record {
-        stands_first = λ z set. rw (← (lined_alone corners long z)) ((second_stage.right z (alone_kept z set)).alone set);
-        near_second = λ z set. (second_stage.right z (alone_kept z set)).near set;
-        stands_second = λ z set. rw (← (lined_alone corners long z)) ((first.right z (alone_candidates z set)).alone (alone_kept z set));
-        near_first = λ z set. (first.right z (alone_candidates z set)).near (alone_kept z set);
-      }
-
-      pub all_stood : AllStood corners own second standings from close
-      all_stood z set = by_case (close_case z set)
-        where
-          by_case : (bit z kept ≡ true) ⊎ (bit z other ≡ true) → Stood corners (lined second from 1 z) (get_or own z 0) (get_or standings z 0)
-          by_case (inl e) =
-              let one = first.right z (kept_candidates z e) in
-              let two = second_stage.right z e in
-              record {
-                second = rw (← (lined_alone corners long z)) (one.alone e);
-                near_first = λ r0. omega (arith, one.near e);
-                first = λ r1. rw (← (lined_alone corners long z)) (two.within set);
-                near_second = λ r1 s0. omega (arith, two.close set);
-              }
-          by_case (inr e) =
-              let one = first.right z (other_candidates z e) in
-              record {
-                second = rw (← (lined_alone corners long z)) (one.within e);
-                near_first = λ r0. omega (arith, one.close e);
-                first = λ r1. absurd (r1 (one.close e));
-                near_second = λ r1. absurd (r1 (one.close e));
-              }
-
-      -- What is neither alone nor close has no point in common with the triangle.
-      apart : (z : ℕ) → z < n → bit z alone ≡ false → bit z close ≡ false → Share 3 (points_at 3 3 0 corners) (points_at 3 3 0 (nine (from + z) second)) → ⊥
-      apart z h none-alone none-close shared =
-          let met : bit z candidates ≡ true = may.set z h shared in
-          let there : Share 3 (points_at 3 3 0 corners) (points_at 3 3 0 (lined second from 1 z)) = rw (lined_second second from z) shared in
-          by_bits (bit z kept) (bit z other) refl refl met there
-        where
-          by_bits : (k o : Bool) → bit z kept ≡ k → bit z other ≡ o → bit z candidates ≡ true →
-              Share 3 (points_at 3 3 0 corners) (points_at 3 3 0 (lined second from 1 z)) → ⊥
-          by_bits true o e f met there = (second_stage.right z e).apart none-alone none-close (rw (lined_alone corners long z) there)
-          by_bits false true e f met there = both f (sym (second_stage.other_stays z e) ∙ none-close)
-          by_bits false false e f met there = (first.right z met).apart e f (rw (lined_alone corners long z) (share_trade there))
-
-      pub word_decided : {word : ℕ} → Judged corners second from alone close word → Verdicts corners second from n word
-      word_decided {word} judged = record {
-        small =
-            judged.small n (second_stage.kept_small n (first.kept_small n may.small))
-            (second_stage.other_small n (first.other_small n (pow_pos n) may.small) (first.kept_small n may.small));
-        right = right;
-      }
-        where
-          right : (z : ℕ) → z < n → Judges 3 3 3 corners (nine (from + z) second) (bit z word)
-          right z h = by_bits (bit z alone) (bit z close) refl refl
-            where
-              by_bits : (a c : Bool) → bit z alone ≡ a → bit z close ≡ c → Judges 3 3 3 corners (nine (from + z) second) (bit z word)
-              by_bits true c e f = rw (← (lined_second second from z)) (judged.right z (inl e)).judges
-              by_bits false true e f = rw (← (lined_second second from z)) (judged.right z (inr f)).judges
-              by_bits false false e f = rw (judged.none z e f) (says_no (apart z h e f))
 
 -- A word without candidates.
 pub none_decided : {corners second : List ℤ} {from n candidates : ℕ} → MayMeet corners second from n candidates → candidates ≡ 0 →

@@ -1,123 +1,111 @@
 // The last stage in which a word of candidates is decided: the verdicts on the pairs that are left. The estimate is asked first, and what it can't tell
 // is asked exactly.
-ghost use Rattle.std.specs.Prelude.{◌≡◌, ◌<◌, length};
-ghost use Rattle.exact.specs.Grid.{Ready};
-ghost use Rattle.exact.specs.Small.{BothNarrow};
-ghost use Rattle.space.specs.Spaces.{Numbered};
+ghost use Rattle.std.specs.Prelude.{◌≡◌};
 ghost use Rattle.kernel.specs.Meeting.{Judges};
-ghost use Rattle.kernel.specs.Standings.{SeemToMeet, Stood};
-ghost use Rattle.boxes.specs.Triangles.{triangles, nine};
-ghost use Rattle.deciding.specs.Stages.{Clear, Lined, Marked, AllNumbered, CrossedAt, Parted, AllAlone, AllStood, JudgedAt, Judged};
+ghost use Rattle.deciding.specs.Places.{lined};
+ghost use Rattle.deciding.specs.Stages.{Clear, Marked, says_meeting, is_untold, Faced, Numbering, NumberedAt, AllNumbered, Crossing, CrossedAt, Parted, AllAlone, StoodAt, AllStood, JudgedAt, Judged};
 
-use crate::places::{Left, index_of};
+use crate::places::{Left, Pairs};
+use crate::sorting::sort_places;
 use kernel::meet_by_standings;
 use space::estimated_crossing;
-use words::{flag_at, lowest_of, without_lowest};
+use words::{Bits, flag_at};
 
-// The last two signs of the triangle in nine numbers and triangle j of the list, whose standings are s and r, by the estimate.
-fn crossing_at(corners: &[i32], s: u32, second: &[i32], j: usize, r: u32) -> u32
-    requires { Ready 9 corners.now × Numbered s × (j < triangles second.now) × Ready 9 (nine j second.now) × Numbered r }
-    ensures { SeemToMeet corners.now (nine j second.now) s r result }
-{
-    let at = 9 * j;
-    estimated_crossing(corners, s, &second[at..at + 9], r)
+// Pairs whose standings are known by their numbers: that of the first triangle of each place to the plane of the second, and that of the second to the
+// plane of the first.
+#[derive(Clone, Copy)]
+pub struct Stances<'a> {
+    pub pairs: Pairs<'a>,
+    pub first: &'a [u32],
+    pub second: &'a [u32],
 }
 
-// Which of the pairs that are asked meet, by the estimate of their last two signs, where s and r are the standings. What it can't tell goes to the others.
-fn cross_by_estimate(
-    corners: &[i32],
-    own: &[u32],
-    second: &[i32],
-    standings: &[u32],
-    from: usize,
-    asked: u64,
-    close: u64,
-) -> Left
-    requires { Ready 9 corners.now × (length own.now ≡ 64) × Lined second.now from 1 asked × (length standings.now ≡ 64) × AllNumbered own.now asked × AllNumbered standings.now asked × Clear asked close }
-    ensures { Parted (CrossedAt corners.now own.now second.now standings.now from) asked close result.kept result.other }
+// Whether the estimate of the last two signs says that a pair meets.
+fn says_meeting(v: u32) -> bool
+    ensures { result ≡ says_meeting v }
 {
-    let mut kept: u64 = 0;
-    let mut other = close;
-    let mut left = asked;
-    while left != 0 {
-        let next = without_lowest(left);
-        let z = lowest_of(left);
-        let j = index_of(from, 1, z);
-        let v = crossing_at(corners, own[z as usize], second, j, standings[z as usize]);
-        kept += flag_at(v == 1, z);
-        other += flag_at(1 < v, z);
-        left = next;
-    }
-    Left {
-        kept: kept,
-        other: other,
-    }
+    v == 1
 }
 
-// The verdict on the triangle in nine numbers and triangle j of the list, whose standings are s and r.
-fn meet_at(narrow: bool, corners: &[i32], s: u32, second: &[i32], j: usize, r: u32) -> bool
-    requires { Ready 9 corners.now × (j < triangles second.now) × Ready 9 (nine j second.now) × BothNarrow narrow corners.now (nine j second.now) × Stood corners.now (nine j second.now) s r }
-    ensures { Judges 3 3 3 corners.now (nine j second.now) result }
+// Whether it can't tell.
+fn is_untold(v: u32) -> bool
+    ensures { result ≡ is_untold v }
 {
-    let at = 9 * j;
-    meet_by_standings(narrow, corners, s, &second[at..at + 9], r)
+    1 < v
 }
 
-// The verdicts on the pairs that are asked, beside those that are known.
-fn decide_rest(
-    narrow: bool,
-    corners: &[i32],
-    own: &[u32],
-    second: &[i32],
-    standings: &[u32],
-    from: usize,
-    asked: u64,
-    known: u64,
-) -> u64
-    requires { Ready 9 corners.now × (length own.now ≡ 64) × Lined second.now from 1 asked × (length standings.now ≡ 64) × AllStood corners.now own.now second.now standings.now from asked × BothNarrow narrow corners.now second.now × Clear asked known }
-    ensures { Marked (JudgedAt corners.now second.now from) known asked result }
-{
-    let mut word = known;
-    let mut left = asked;
-    while left != 0 {
-        let next = without_lowest(left);
-        let z = lowest_of(left);
-        let j = index_of(from, 1, z);
-        let meet = meet_at(
-            narrow,
-            corners,
-            own[z as usize],
-            second,
-            j,
-            standings[z as usize],
-        );
-        word += flag_at(meet, z);
-        left = next;
+impl<'a> Stances<'a> {
+    // The last two signs of the pair of a place, by the estimate.
+    #[inline(always)]
+    fn crossing(&self, place: u32) -> u32
+        requires { Faced self.now place × NumberedAt self.now place }
+        ensures { Crossing self.now place result }
+    {
+        estimated_crossing(
+            self.pairs.first.corners(place),
+            self.first[place as usize],
+            self.pairs.second.corners(place),
+            self.second[place as usize],
+        )
     }
-    word
-}
 
-// The verdicts on pairs that each have a corner alone, and on close ones: by the estimate of the last signs, and exactly where that can't tell; or where all
-// numbers are small, exactly at once.
-pub fn judge(
-    narrow: bool,
-    corners: &[i32],
-    own: &[u32],
-    second: &[i32],
-    standings: &[u32],
-    from: usize,
-    alone: u64,
-    close: u64,
-) -> u64
-    requires { Ready 9 corners.now × (length own.now ≡ 64) × Lined second.now from 1 alone × Lined second.now from 1 close × (length standings.now ≡ 64) × AllAlone corners.now own.now second.now standings.now from alone × AllStood corners.now own.now second.now standings.now from close × BothNarrow narrow corners.now second.now × Clear alone close }
-    ensures { Judged corners.now second.now from alone close result }
-{
-    if narrow {
-        let word = decide_rest(narrow, corners, own, second, standings, from, alone, 0);
-        return decide_rest(narrow, corners, own, second, standings, from, close, word);
+    // The verdict on the pair of a place.
+    #[inline(always)]
+    fn meet(&self, place: u32) -> bool
+        requires { Faced self.now place × StoodAt self.now place }
+        ensures { Judges 3 3 3 (lined self.now.pairs.first place) (lined self.now.pairs.second place) result }
+    {
+        meet_by_standings(
+            self.pairs.narrow,
+            self.pairs.first.corners(place),
+            self.first[place as usize],
+            self.pairs.second.corners(place),
+            self.second[place as usize],
+        )
     }
-    let told = cross_by_estimate(corners, own, second, standings, from, alone, close);
-    decide_rest(
-        narrow, corners, own, second, standings, from, told.other, told.kept,
-    )
+
+    // Which of the pairs that are asked meet, by the estimate of their last two signs. What it can't tell goes to the others.
+    #[inline(always)]
+    fn cross_by_estimate(&self, asked: u64, close: u64) -> Left
+        requires { Numbering self.now asked × AllNumbered self.now asked × Clear asked close }
+        ensures { Parted (CrossedAt self.now) asked close result.kept result.other }
+    {
+        let mut signs = [0u32; 64];
+        let sorted = Left {
+            kept: 0,
+            other: close,
+        };
+        let crossing = |z: u32| -> u32
+            requires { Faced self.now z × NumberedAt self.now z }
+            ensures { Crossing self.entry.now z result }
+        { self.crossing(z) };
+        sort_places(&mut signs, asked, sorted, crossing, says_meeting, is_untold)
+    }
+
+    // The verdicts on the pairs that are asked, beside those that are known.
+    #[inline(always)]
+    fn decide_rest(&self, asked: u64, known: u64) -> u64
+        requires { Numbering self.now asked × AllStood self.now asked × Clear asked known }
+        ensures { Marked (JudgedAt self.now.pairs) known asked result }
+    {
+        let mut word = known;
+        for z in Bits(asked) {
+            word += flag_at(self.meet(z), z);
+        }
+        word
+    }
+
+    // The verdicts on pairs that each have a corner alone, and on close ones: by the estimate of the last signs, and exactly where that can't tell; or where
+    // all numbers are small, exactly at once.
+    pub fn judge(&self, alone: u64, close: u64) -> u64
+        requires { Numbering self.now alone × Numbering self.now close × AllAlone self.now alone × AllStood self.now close × Clear alone close }
+        ensures { Judged self.now.pairs alone close result }
+    {
+        if self.pairs.narrow {
+            let word = self.decide_rest(alone, 0);
+            return self.decide_rest(close, word);
+        }
+        let told = self.cross_by_estimate(alone, close);
+        self.decide_rest(told.other, told.kept)
+    }
 }

@@ -13,9 +13,9 @@ use Rattle.checks.specs.Grid.{lowest_off, all_on}
 use Rattle.checks.specs.Rules.{takes_flat, all_on_grid, pair_checks}
 use Rattle.checks.proofs.GridLaws.{SomeOff, lowest_some}
 use Rattle.checks.proofs.CheckLaws.{OnGrid, GridCase, all, not_all, grid_case, long_fine, all_on_fine, not_all_refused}
-use Rattle.checks.specs.declared.answer.Refusal.{Refusal}
+use Rattle.checks.proofs.AnswerLaws.{never_fine}
+use Rattle.checks.proofs.Passing.{both_passed}
 use Rattle.predicate.specs.Rules.{VerdictRule}
-use Rattle.predicate.proofs.PairLaws.{refused_by_checks, found_fine, judged}
 use Rattle.telling.specs.Numbers.{verdict_code}
 use Rattle.door.specs.Doors.{VerdictTold}
 
@@ -42,8 +42,15 @@ module _ (first second : List ℤ) (nine : length first ≡ 9) (nine' : length s
   -- ---- from what the code finds to what is told
   refused_told : {side place : ℕ} → checks ≡ refused 1 side place → VerdictTold first second 101
   refused_told {side} {place} e =
-      let why : Refusal = record { number = 1; side = side; place = place } in
-      record { told = refused 1 side place; right = refused_by_checks takes_flat 3 3 3 first second (sym e) why refl; tells = refl }
+      record {
+        told = refused 1 side place;
+        right = record {
+          verdict = false;
+          told = sym (ap (λ (c : Check). c then served false) e);
+          right = λ g. absurd (never_fine g e);
+        };
+        tells = refl;
+      }
 
   pub first_off : all_on first ≡ false → VerdictTold first second 101
   first_off e = refused_told (by_grid (not_all_refused 0 first e) refl)
@@ -55,10 +62,14 @@ module _ (first second : List ℤ) (nine : length first ≡ 9) (nine' : length s
   both_fine e f = sym (by_grid (all_on_fine 0 first e) (all_on_fine 1 second f))
 
   pub both_ready : all_on first ≡ true → all_on second ≡ true → Ready 9 first × Ready 9 second
-  both_ready e f = found_fine takes_flat 3 3 3 first second (both_fine e f) refl
+  both_ready e f = both_passed takes_flat 3 3 3 first second (sym (both_fine e f))
 
   pub both_on : all_on first ≡ true → all_on second ≡ true → (v : Bool) → Judges 3 3 3 first second v → VerdictTold first second (verdict_code v)
-  both_on e f v says = record { told = served v; right = judged takes_flat 3 3 3 first second (both_fine e f) v refl refl says; tells = refl }
+  both_on e f v says = record {
+    told = served v;
+    right = record { verdict = v; told = ap (λ (c : Check). c then served v) (both_fine e f); right = λ g. says };
+    tells = refl;
+  }
 
   -- ---- from what is told to what is so
   pub data Found (told : Answer Bool) : Type 0 where

@@ -2,7 +2,7 @@
 ghost use Rattle.std.specs.Prelude.{◌≡◌, length};
 ghost use Rattle.door.specs.Doors.{VerdictTold, BytesTold};
 
-use checks::all_on;
+use checks::{Reason, all_on};
 use kernel::triangles_meet;
 use packing::numbers_at;
 
@@ -13,12 +13,9 @@ fn verdict_number(first: &[i32], second: &[i32]) -> u32
     ensures { VerdictTold first.now second.now result }
 {
     if !all_on(first) || !all_on(second) {
-        return 101;
+        return 100 + Reason::OffGrid.number();
     }
-    if triangles_meet(first, second) {
-        return 1;
-    }
-    0
+    u32::from(triangles_meet(first, second))
 }
 
 // Two triangles in space, 36 bytes each: nine numbers, low byte first. Gives 0 apart, 1 meeting, or 100 plus the number of the refusal.
@@ -26,11 +23,11 @@ pub fn zg_pair_bytes(a: &[u8], b: &[u8]) -> u32
     ensures { BytesTold a.now b.now result }
 {
     if a.len() != 36 || b.len() != 36 {
-        return 103;
+        return 100 + Reason::WrongLength.number();
     }
     let mut first = [0i32; 9];
-    numbers_at(a, 0, &mut first[..]);
+    numbers_at(a, 0, &mut first);
     let mut second = [0i32; 9];
-    numbers_at(b, 0, &mut second[..]);
-    verdict_number(&first[..], &second[..])
+    numbers_at(b, 0, &mut second);
+    verdict_number(&first, &second)
 }

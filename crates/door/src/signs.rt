@@ -5,18 +5,18 @@ ghost use Rattle.shape.specs.Signs.{digit};
 ghost use Rattle.telling.specs.Numbers.{four_numbers};
 ghost use Rattle.telling.specs.Buffer.{Written};
 
-use telling::{put, sign_numbers};
+use telling::{numbers_of, put};
 
 // The flat turn sign of six numbers, three points.
 pub fn zg_turn(points: &[i32], answer: &mut [u64]) -> u32
     ensures { Written (four_numbers (with_served digit (sign_rule 2 points.now))) answer.old result answer.new }
 {
-    put(answer, sign_numbers(predicate::turn_sign(points)))
+    put(answer, numbers_of(predicate::turn_sign(points)))
 }
 
 // The spatial side sign of twelve numbers, four points.
 pub fn zg_side(points: &[i32], answer: &mut [u64]) -> u32
     ensures { Written (four_numbers (with_served digit (sign_rule 3 points.now))) answer.old result answer.new }
 {
-    put(answer, sign_numbers(predicate::side_sign(points)))
+    put(answer, numbers_of(predicate::side_sign(points)))
 }

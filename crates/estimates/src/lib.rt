@@ -16,7 +16,7 @@ pub struct RoughPoint {
     pub z: f64,
 }
 
-// The plane of a triangle: its normal as doubles.
+// The plane of a triangle: its normal as doubles. It is a type of its own, as document 01 has it, so that no point is taken for one.
 #[derive(Clone, Copy)]
 pub struct Plane {
     pub x: f64,

@@ -43,12 +43,6 @@ pub both_true : (a b : Bool) → a && b ≡ true → (a ≡ true) × (b ≡ true
 both_true true b e = (refl, e)
 both_true false b e = absurd (true≢false (sym e))
 
--- A number that is neither 0 nor 1, where everything from 2 on is taken as 2.
-pub two_or_more : {A : Type 0} (f : ℕ → A) → ((n : ℕ) → f 2 ≡ f (suc (suc n))) → (k : ℕ) → (k ≡ 0 → ⊥) → (k ≡ 1 → ⊥) → f 2 ≡ f k
-two_or_more f same zero h i = absurd (h refl)
-two_or_more f same (suc zero) h i = absurd (i refl)
-two_or_more f same (suc (suc n)) h i = same n
-
 -- A number in a window of k numbers from a on: an answer for each of them.
 abbrev pub Cases : Type 0 → ℕ → ℕ → ℕ → Type 0
 Cases X p a zero = X

@@ -1,6 +1,6 @@
 -- Rows and normals whose product is told by its low word, and what tells that it is. Assumes nothing.
-use Rattle.std.proofs.Common.{ℕ, zero, suc, ◌+◌, ◌*◌, ◌^◌, ◌<◌, ◌≤◌, Bool, true, false, ◌&&◌, leb, [], ◌∷◌, ℤ, pos, negsuc, ◌-ℤ◌, ◌*ℤ◌, nat_abs, refl, subst, arith, lit<, w64, leb-false, leb-true}
-use lib.Signed.{mag, le_z}
+use Rattle.std.proofs.Common.{ℕ, zero, suc, ◌+◌, ◌*◌, ◌^◌, ◌<◌, ◌≤◌, Bool, true, false, ◌&&◌, [], ◌∷◌, ℤ, ◌-ℤ◌, ◌*ℤ◌, nat_abs, refl, subst, arith, lit<, w64}
+use lib.Signed.{mag}
 use mir.Val.{hbits}
 use Rattle.algebra.proofs.Bound.{Within, within_add, within_sub, within_mul}
 use Rattle.algebra.proofs.Machine.{exact, returned}
@@ -9,7 +9,7 @@ use Rattle.shape.specs.Signs.{turn_in, row}
 use Rattle.shape.specs.Normals.{normal_of}
 use Rattle.shape.specs.Verdicts.{Says}
 use Rattle.shape.proofs.TurnSize.{turn_size}
-use Rattle.shape.proofs.VerdictLaws.{says_yes, says_both, says_same}
+use Rattle.shape.proofs.VerdictLaws.{says_both, says_same}
 use Rattle.wide.specs.Low.{HasLowWord}
 use Rattle.exact.specs.Small.{narrow}
 use Rattle.exact.specs.Vectors.{Sized, difference_size, narrow_size, Holds}
@@ -49,15 +49,7 @@ says_and : {v w : Bool} {A B : Type 0} → Says v A → Says w B → Says (v && 
 says_and {v = true} s t = says_both s t
 says_and {v = false} s t = says_both s t
 
--- A number that is compared with both ends.
-says_at_most : (m n : ℕ) → Says (leb m n) (m ≤ n)
-says_at_most m n = record { yes = leb-true m n; no = λ e h. omega (arith, leb-false m n e, h) }
-
-pub says_small : (x : ℤ) (n : ℕ) → Says (le_z (negsuc n) x && le_z x (pos (suc n))) (nat_abs x ≤ suc n)
-says_small (pos m) n = says_at_most m (suc n)
-says_small (negsuc m) n = says_same ((λ h. omega (arith, h.0)), λ h. (omega (arith, h), tt)) (says_and (says_at_most m n) (says_yes {Claim = Unit {0}} tt))
-
--- The same of a number that was stored and read back.
+-- A number that was stored and read back.
 pub says_read : (z : ℤ) {n : ℕ} {v : Bool} → mag z < 2 ^ hbits w64 → Says v (nat_abs (kept z) ≤ n) → Says v (nat_abs z ≤ n)
 says_read z {n} {v} f = subst (λ (x : ℤ). Says v (nat_abs x ≤ n)) (returned w64 {r = z} {z = z} f refl)
 

@@ -1,7 +1,7 @@
 -- Coordinates as the code holds them: each is the whole number that is meant, and no larger than the grid allows. Here stand
 -- the readings of a coordinate, of a difference, of products, of a vector and of a plane's normal, which the leaves' proofs put together;
--- and lists whose numbers are read or stored one by one. Assumes nothing.
-use Rattle.std.proofs.Common.{◌≡◌, ℕ, zero, suc, ◌+◌, ◌*◌, ◌^◌, ◌<◌, ◌≤◌, Bool, true, false, T, eqb, ltb, List, [], ◌∷◌, ◌++◌, length, get_or, ℤ, pos, negsuc, ◌-ℤ◌, ◌*ℤ◌, nat_abs, sym, refl, ap, ◌∙◌, subst, append-nil, arith, drop_of_length-le, w64, to_z, of_z, eqb-true}
+-- and lists whose numbers are stored one by one. Assumes nothing.
+use Rattle.std.proofs.Common.{◌≡◌, ℕ, zero, suc, ◌+◌, ◌*◌, ◌^◌, ◌<◌, ◌≤◌, Bool, true, false, T, eqb, ltb, List, [], ◌∷◌, ◌++◌, length, ℤ, pos, ◌-ℤ◌, ◌*ℤ◌, nat_abs, sym, refl, ap, ◌∙◌, subst, append-nil, arith, drop_of_length-le, w64, to_z, of_z, eqb-true}
 use borrow.Author.Tests.{eqb-false}
 use lib.Seq.{sets, sets-eq}
 use lib.Signed.{mag}
@@ -9,7 +9,7 @@ use mir.Val.{hbits}
 use Rattle.algebra.proofs.Bound.{Within}
 use Rattle.algebra.proofs.Machine.{Reads, exact, held, returned, size, difference, product}
 use Rattle.shape.specs.Points.{Point, coord}
-use Rattle.shape.specs.Signs.{turn, turn_in, row, minor, sign}
+use Rattle.shape.specs.Signs.{turn, turn_in, row, minor}
 use Rattle.shape.specs.Normals.{minors, normal_of}
 use Rattle.shape.specs.Flat.{is_zero}
 use Rattle.shape.proofs.FlatLaws.{zero_says}
@@ -77,31 +77,26 @@ vector {x} {y} {z} {n} p q r = ((λ i. p.is i ∷ q.is i ∷ r.is i ∷ []), rec
     each (suc (suc zero)) = (size r).abs
     each (suc (suc (suc i))) = omega arith
 
+-- A row of two points of the grid, and the minors of two rows, as code stores them.
+pub row_read : {a d : Point} → Sized limit a → Sized limit d →
+    (◌≡◌ {A = Point} (stored_gap 0 a d ∷ stored_gap 1 a d ∷ stored_gap 2 a d ∷ []) (row a d)) × Sized difference_size (stored_gap 0 a d ∷ stored_gap 1 a d ∷ stored_gap 2 a d ∷ [])
+row_read s t = vector (stored_gap_law s t 0) (stored_gap_law s t 1) (stored_gap_law s t 2)
+
+abbrev pub stored_minor : ℕ → ℕ → Point → Point → ℤ
+stored_minor i j u v = kept (kept (kept (coord i u) *ℤ kept (coord j v)) -ℤ kept (kept (coord j u) *ℤ kept (coord i v)))
+
+pub minors_read : {u v : Point} → Sized difference_size u → Sized difference_size v → Sized minor_size (minors u v) →
+    (◌≡◌ {A = Point} (stored_minor 1 2 u v ∷ stored_minor 2 0 u v ∷ stored_minor 0 1 u v ∷ []) (minors u v))
+    × Sized minor_size (stored_minor 1 2 u v ∷ stored_minor 2 0 u v ∷ stored_minor 0 1 u v ∷ [])
+minors_read s r small =
+    vector (held w64 (minor_read s r 1 2 (small.each 0)) tt) (held w64 (minor_read s r 2 0 (small.each 1)) tt) (held w64 (minor_read s r 0 1 (small.each 2)) tt)
+
 -- ---- a list whose numbers are all stored anew, one by one
 pub all_stored : {A : Type 0} (new old : List A) → length old ≡ length new → sets old 0 new ≡ new
 all_stored {A} new old e =
     sets-eq new old 0 (omega arith)
     ∙ ap (λ (rest : List A). new ++ rest) (drop_of_length-le old {i = 0 + length new} (omega arith))
     ∙ append-nil new
-
--- ---- three numbers of a list
-module _ (l : List ℤ) (long : length l ≡ 3) where
-  abbrev at : ℕ → ℤ
-  at i = get_or l i (pos 0)
-
-  are_all : (l : List ℤ) → length l ≡ 3 → get_or l 0 (pos 0) ∷ get_or l 1 (pos 0) ∷ get_or l 2 (pos 0) ∷ [] ≡ l
-  are_all [] e = absurd (omega arith)
-  are_all (x ∷ []) e = absurd (omega arith)
-  are_all (x ∷ y ∷ []) e = absurd (omega arith)
-  are_all (x ∷ y ∷ z ∷ []) e = refl
-  are_all (x ∷ y ∷ z ∷ w ∷ l) e = absurd (omega arith)
-
-  -- Read one by one they are the list.
-  pub three_read : mag (at 0) < 2 ^ hbits w64 → mag (at 1) < 2 ^ hbits w64 → mag (at 2) < 2 ^ hbits w64 →
-      kept (at 0) ∷ kept (at 1) ∷ kept (at 2) ∷ [] ≡ l
-  three_read f g h =
-      (λ i. returned w64 {r = at 0} {z = at 0} f refl i ∷ returned w64 {r = at 1} {z = at 1} g refl i ∷ returned w64 {r = at 2} {z = at 2} h refl i ∷ [])
-      ∙ are_all l long
 
 -- ---- a row of differences, and the normal of a plane
 pub sized_row : {a d : Point} → Sized limit a → Sized limit d → Sized difference_size (row a d)
@@ -114,12 +109,6 @@ sized_normal a b c = (vector (exact (turn_within a b c 1 2)) (exact (turn_within
 -- The same of the minors of two rows as the code holds them.
 pub sized_minors : {v w v' w' : Point} → Sized minor_size (minors v' w') → v ≡ v' → w ≡ w' → Sized minor_size (minors v w)
 sized_minors s e f = subst (λ (n : Point). Sized minor_size n) (λ i. minors (sym e i) (sym f i)) s
-
--- ---- a sign's own sign
-pub sign_again : (z : ℤ) → sign (sign z) ≡ sign z
-sign_again (pos zero) = refl
-sign_again (pos (suc n)) = refl
-sign_again (negsuc n) = refl
 
 -- ---- what the machine's tests of equality tell
 -- A test of two numbers by their bits is one of the whole numbers.
@@ -146,11 +135,3 @@ module _ {r z : ℤ} (fits : mag r < 2 ^ hbits w64) (e : r ≡ z) where
 
   pub zero_kept_test : eqb (of_z w64 r) 0 ≡ is_zero z
   zero_kept_test = by_bits (of_z w64 r) 0 (is_zero z) (λ h. zero_test (zero_kept h)) (λ h. not_zero_test z (not_zero_kept h))
-
--- Coordinate i of a vector, against 0.
-module _ {n : ℕ} {a : Point} (t : T (ltb n (2 ^ hbits w64))) (s : Sized n a) (i : ℕ) where
-  pub zero_coordinate : of_z w64 (coord i a) ≡ 0 → is_zero (coord i a) ≡ true
-  zero_coordinate h = zero_test (sym (coordinate t s i).is ∙ ap (to_z w64) h)
-
-  pub not_zero_coordinate : (of_z w64 (coord i a) ≡ 0 → ⊥) → is_zero (coord i a) ≡ false
-  not_zero_coordinate h = not_zero_test (coord i a) (λ e. h (ap (of_z w64) e))

@@ -1,13 +1,16 @@
--- The vocabulary of the leaves in src/determinant.rt and src/levels.rt: points and vectors as the code holds them, how large their coordinates
--- can be, the normal of a list's triangle, and its plane in doubles. Words of the inside: no public contract speaks of them.
-use Rattle.std.specs.Prelude.{◌≡◌, ℕ, ◌+◌, ◌*◌, ◌^◌, ◌<◌, ◌≤◌, List, [], ◌∷◌, ℤ, unsigned_abs, Float}
-use Rattle.shape.specs.Points.{Point, coord, point_at}
+-- The vocabulary of the leaves in src/determinant.rt and src/levels.rt: points, rows and normals as the code holds them, the normal of a list's
+-- triangle, and its plane in doubles. Words of the inside: no public contract speaks of them.
+use Rattle.std.specs.Prelude.{◌≡◌, ◌^◌, ◌<◌, List, [], ◌∷◌, ℤ, unsigned_abs, Float}
+use Rattle.shape.specs.Points.{Point, point_at}
 use Rattle.shape.specs.Normals.{dot, normal_of}
 use Rattle.estimates.specs.Doubles.{rough, plane_of}
 use Rattle.estimates.specs.declared.Plane.{Plane}
 use Rattle.exact.specs.Grid.{limit}
-use Rattle.exact.specs.declared.determinant.PlanePoint.{PlanePoint}
-use Rattle.exact.specs.declared.determinant.SpacePoint.{SpacePoint}
+pub use Rattle.exact.specs.Sizes.{Sized, difference_size, minor_size, narrow_size}
+use Rattle.exact.specs.declared.points.PlanePoint.{PlanePoint}
+use Rattle.exact.specs.declared.points.SpacePoint.{SpacePoint}
+use Rattle.exact.specs.declared.points.Row.{Row}
+use Rattle.exact.specs.declared.points.Normal.{Normal}
 
 abbrev pub planar : PlanePoint → Point
 planar p = p.x ∷ p.y ∷ []
@@ -15,22 +18,11 @@ planar p = p.x ∷ p.y ∷ []
 abbrev pub spatial : SpacePoint → Point
 spatial p = p.x ∷ p.y ∷ p.z ∷ []
 
--- No coordinate is larger than n, whatever its sign.
-pub record Sized (n : ℕ) (a : Point) : Type 0 where
-  pub each : (i : ℕ) → unsigned_abs (coord i a) ≤ n
+abbrev pub differences : Row → Point
+differences u = u.x ∷ u.y ∷ u.z ∷ []
 
--- The size of a difference of two coordinates of the grid, 2^31, and of a component of a normal, 2^62. That is a turn, the difference of two products of
--- up to 2^62 each; that it is no larger than one of them is `turn_size` in proofs/TurnSize.antt of crate `shape`.
-abbrev pub difference_size : ℕ
-difference_size = limit + limit
-
-abbrev pub minor_size : ℕ
-minor_size = difference_size * difference_size
-
--- The largest size of a normal's components for which its three products with differences of up to 2^31 add up to less than 2^63 in size, whatever their
--- signs: 3 * 1431655765 * 2^31 is below 2^63. With one more they might not.
-abbrev pub narrow_size : ℕ
-narrow_size = 1431655765
+abbrev pub components : Normal → Point
+components n = n.x ∷ n.y ∷ n.z ∷ []
 
 -- The product of a row and a normal is so small that its low word tells it.
 pub record Holds (u n : Point) : Type 0 where

@@ -7,36 +7,23 @@ ghost use Rattle.shape.specs.Normals.{minors, dot, normal_of};
 ghost use Rattle.wide.specs.Value.{value};
 ghost use Rattle.exact.specs.Grid.{limit, Ready};
 ghost use Rattle.exact.specs.SignNumbers.{sign_number};
-ghost use Rattle.exact.specs.Vectors.{planar, spatial, Sized, difference_size, minor_size};
+ghost use Rattle.exact.specs.Sizes.{Sized, OnGrid, minor_size};
+ghost use Rattle.exact.specs.Vectors.{planar, spatial, differences, components};
 
+use crate::points::{Normal, PlanePoint, Row, SpacePoint};
 use wide::Wide;
-
-// A point of the plane, or a vector.
-#[derive(Clone, Copy)]
-pub struct PlanePoint {
-    pub x: i64,
-    pub y: i64,
-}
-
-// A point of space, or a vector.
-#[derive(Clone, Copy)]
-pub struct SpacePoint {
-    pub x: i64,
-    pub y: i64,
-    pub z: i64,
-}
 
 // The number at a position of a list.
 fn number_at(numbers: &[i32], at: usize) -> i64
     requires { at < length numbers.now }
     ensures { result ≡ slice_index_or numbers.now at (pos 0) }
 {
-    numbers[at] as i64
+    i64::from(numbers[at])
 }
 
 // The point that stands in a list from a position on.
 pub fn plane_point(numbers: &[i32], at: usize) -> PlanePoint
-    requires { at + 2 ≤ length numbers.now }
+    requires { (at + 2 ≤ length numbers.now) × OnGrid numbers.now }
     ensures { planar result ≡ point_at 2 at numbers.now }
 {
     PlanePoint {
@@ -46,7 +33,7 @@ pub fn plane_point(numbers: &[i32], at: usize) -> PlanePoint
 }
 
 pub fn space_point(numbers: &[i32], at: usize) -> SpacePoint
-    requires { at + 3 ≤ length numbers.now }
+    requires { (at + 3 ≤ length numbers.now) × OnGrid numbers.now }
     ensures { spatial result ≡ point_at 3 at numbers.now }
 {
     SpacePoint {
@@ -59,7 +46,6 @@ pub fn space_point(numbers: &[i32], at: usize) -> SpacePoint
 // [a,b,c], definition 2.1. Differences are at most 2^31 in size, their products 2^62. So is what one product takes from the other, though the two
 // bounds add up to 2^63, one more than 64 bits hold: `turn_size` in proofs/TurnSize.antt of crate `shape`.
 pub fn turn_at(a: PlanePoint, b: PlanePoint, c: PlanePoint) -> i64
-    requires { Sized limit (planar a) × Sized limit (planar b) × Sized limit (planar c) }
     ensures { result ≡ turn (planar a) (planar b) (planar c) }
 {
     (a.x - c.x) * (b.y - c.y) - (a.y - c.y) * (b.x - c.x)
@@ -78,11 +64,10 @@ pub fn turn_of(points: &[i32]) -> i64
 }
 
 // a - d, a row of the determinant.
-pub fn row_of(a: SpacePoint, d: SpacePoint) -> SpacePoint
-    requires { Sized limit (spatial a) × Sized limit (spatial d) }
-    ensures { (spatial result ≡ row (spatial a) (spatial d)) × Sized difference_size (spatial result) }
+pub fn row_of(a: SpacePoint, d: SpacePoint) -> Row
+    ensures { differences result ≡ row (spatial a) (spatial d) }
 {
-    SpacePoint {
+    Row {
         x: a.x - d.x,
         y: a.y - d.y,
         z: a.z - d.z,
@@ -91,11 +76,11 @@ pub fn row_of(a: SpacePoint, d: SpacePoint) -> SpacePoint
 
 // The 2 by 2 minors of two rows, as a vector. Each product is at most 2^62 in size; that their differences are too, the caller shows of
 // rows that have a point in common.
-fn minors_of(v: SpacePoint, w: SpacePoint) -> SpacePoint
-    requires { Sized difference_size (spatial v) × Sized difference_size (spatial w) × Sized minor_size (minors (spatial v) (spatial w)) }
-    ensures { (spatial result ≡ minors (spatial v) (spatial w)) × Sized minor_size (spatial result) }
+fn minors_of(v: Row, w: Row) -> Normal
+    requires { Sized minor_size (minors (differences v) (differences w)) }
+    ensures { components result ≡ minors (differences v) (differences w) }
 {
-    SpacePoint {
+    Normal {
         x: v.y * w.z - v.z * w.y,
         y: v.z * w.x - v.x * w.z,
         z: v.x * w.y - v.y * w.x,
@@ -103,9 +88,8 @@ fn minors_of(v: SpacePoint, w: SpacePoint) -> SpacePoint
 }
 
 // The product of a row and a normal: three products of up to 2^93 in size, and their sum.
-fn dot_of(u: SpacePoint, n: SpacePoint) -> Wide
-    requires { Sized difference_size (spatial u) × Sized minor_size (spatial n) }
-    ensures { value result ≡ dot (spatial u) (spatial n) }
+fn dot_of(u: Row, n: Normal) -> Wide
+    ensures { value result ≡ dot (differences u) (components n) }
 {
     let x = wide::scaled(n.x, u.x);
     let y = wide::scaled(n.y, u.y);
@@ -114,24 +98,21 @@ fn dot_of(u: SpacePoint, n: SpacePoint) -> Wide
 }
 
 // The normal of the plane of a, b, c: the minors of [a,b,c,X], which are the same for every X. Who asks one plane several times takes them once.
-pub fn normal_at(a: SpacePoint, b: SpacePoint, c: SpacePoint) -> SpacePoint
-    requires { Sized limit (spatial a) × Sized limit (spatial b) × Sized limit (spatial c) }
-    ensures { (spatial result ≡ normal_of (spatial a) (spatial b) (spatial c)) × Sized minor_size (spatial result) }
+pub fn normal_at(a: SpacePoint, b: SpacePoint, c: SpacePoint) -> Normal
+    ensures { components result ≡ normal_of (spatial a) (spatial b) (spatial c) }
 {
     minors_of(row_of(a, c), row_of(b, c))
 }
 
 // The side of d against the plane through c that has this normal.
-pub fn side_over(c: SpacePoint, normal: SpacePoint, d: SpacePoint) -> Wide
-    requires { Sized limit (spatial c) × Sized minor_size (spatial normal) × Sized limit (spatial d) }
-    ensures { value result ≡ dot (row (spatial c) (spatial d)) (spatial normal) }
+pub fn side_over(c: SpacePoint, normal: Normal, d: SpacePoint) -> Wide
+    ensures { value result ≡ dot (row (spatial c) (spatial d)) (components normal) }
 {
     dot_of(row_of(c, d), normal)
 }
 
 // [a,b,c,d], definition 2.2: the determinant whose rows are a - d, b - d, c - d, by the normal of a, b, c.
 pub fn side_at(a: SpacePoint, b: SpacePoint, c: SpacePoint, d: SpacePoint) -> Wide
-    requires { Sized limit (spatial a) × Sized limit (spatial b) × Sized limit (spatial c) × Sized limit (spatial d) }
     ensures { value result ≡ side (spatial a) (spatial b) (spatial c) (spatial d) }
 {
     side_over(c, normal_at(a, b, c), d)
@@ -150,7 +131,8 @@ pub fn side_of(points: &[i32]) -> Wide
     )
 }
 
-#[derive(Clone, Copy)]
+// What a determinant is: below zero, zero or above it.
+#[derive(Clone, Copy, PartialEq, Eq, Debug)]
 pub enum Sign {
     Negative,
     Zero,
@@ -158,21 +140,25 @@ pub enum Sign {
 }
 
 // The sign of a turn.
-pub fn sign_of(z: i64) -> Sign
-    ensures { sign_number result ≡ sign z }
-{
-    if z < 0 {
-        Sign::Negative
-    } else if z == 0 {
-        Sign::Zero
-    } else {
-        Sign::Positive
+impl From<i64> for Sign {
+    ghost from_gives = { λ z s. sign_number s ≡ sign z };
+
+    fn from(z: i64) -> Sign {
+        if z < 0 {
+            Sign::Negative
+        } else if z == 0 {
+            Sign::Zero
+        } else {
+            Sign::Positive
+        }
     }
 }
 
 // The sign of a side.
-pub fn wide_sign_of(z: Wide) -> Sign
-    ensures { sign_number result ≡ sign (value z) }
-{
-    sign_of(wide::sign(z))
+impl From<Wide> for Sign {
+    ghost from_gives = { λ z s. sign_number s ≡ sign (value z) };
+
+    fn from(z: Wide) -> Sign {
+        Sign::from(wide::sign(z))
+    }
 }

@@ -1,5 +1,6 @@
-// The levels of points over planes of the grid, by the signs of their sides: 0 below zero, 1 at zero, 2 above it. An estimate in doubles tells most of
-// them. A side that it can't tell is small, so that the low word of the exact sum is the whole of it.
+// The levels of points over planes of the grid, by the signs of their sides: 0 below zero, 1 at zero, 2 above it. They stay numbers, since they are the
+// digits of the pattern that three of them make. An estimate in doubles tells most of them. A side that it can't tell is small, so that the low word of the
+// exact sum is the whole of it.
 ghost use Rattle.std.specs.Prelude.{◌≡◌, ◌≤◌, if◌then◌else◌, unsigned_abs};
 ghost use Rattle.shape.specs.Signs.{row, sign, digit};
 ghost use Rattle.shape.specs.Normals.{dot};
@@ -7,10 +8,11 @@ ghost use Rattle.shape.specs.SpaceTest.{level};
 ghost use Rattle.shape.specs.Verdicts.{Says};
 ghost use Rattle.estimates.specs.Doubles.{rough, plane_of, far_above, far_below};
 ghost use Rattle.wide.specs.Low.{HasLowWord};
-ghost use Rattle.exact.specs.Grid.{limit};
-ghost use Rattle.exact.specs.Vectors.{spatial, Sized, minor_size, narrow_size, Holds, PlaneThrough};
+ghost use Rattle.exact.specs.Sizes.{Sized, narrow_size};
+ghost use Rattle.exact.specs.Vectors.{spatial, differences, components, Holds, PlaneThrough};
 
-use crate::determinant::{Sign, SpacePoint, normal_at, row_of, sign_of};
+use crate::determinant::{Sign, normal_at, row_of};
+use crate::points::{Normal, Row, SpacePoint};
 use estimates::{Plane, RoughPoint, double_of, estimate_of, is_above, is_below, plane_of};
 use wide::{low_product, told_by_low};
 
@@ -18,7 +20,7 @@ use wide::{low_product, told_by_low};
 pub fn level_of(z: i64) -> u32
     ensures { (result ≡ digit (sign z)) × (result ≤ 2) }
 {
-    match sign_of(z) {
+    match Sign::from(z) {
         Sign::Negative => 0,
         Sign::Zero => 1,
         Sign::Positive => 2,
@@ -27,37 +29,36 @@ pub fn level_of(z: i64) -> u32
 
 // ---- by the low word
 
-// How large the components of a normal may be so that its product with every row is told by its low word: `narrow_size` of specs/Vectors.antt.
-const NARROW_SIZE: i64 = 1_431_655_765;
+// How large the components of a normal may be so that its product with every row is told by its low word: `narrow_size` of specs/Sizes.antt.
+const NARROW_SIZE: u64 = 1_431_655_765;
 
 // Whether a number is so small.
 fn is_small(x: i64) -> bool
     ensures { Says result (unsigned_abs x ≤ narrow_size) }
 {
-    (-NARROW_SIZE <= x) & (x <= NARROW_SIZE)
+    x.unsigned_abs() <= NARROW_SIZE
 }
 
 // Whether the components of a normal are. All three are asked, which spares branches that no processor guesses.
-pub fn is_narrow(n: SpacePoint) -> bool
-    ensures { Says result (Sized narrow_size (spatial n)) }
+pub fn is_narrow(n: Normal) -> bool
+    ensures { Says result (Sized narrow_size (components n)) }
 {
     is_small(n.x) & is_small(n.y) & is_small(n.z)
 }
 
 // The low word of the product of a row and a normal.
-fn low_dot_of(u: SpacePoint, n: SpacePoint) -> u64
-    ensures { HasLowWord (dot (spatial u) (spatial n)) result }
+fn low_dot_of(u: Row, n: Normal) -> u64
+    ensures { HasLowWord (dot (differences u) (components n)) result }
 {
     let x = low_product(u.x, n.x);
     let y = low_product(u.y, n.y);
     let z = low_product(u.z, n.z);
-    std::num::wrapping_add_u64(std::num::wrapping_add_u64(x, y), z)
+    x.wrapping_add(y).wrapping_add(z)
 }
 
 // The level of d over the plane through c that has this normal, where the low word tells the side. Elsewhere the number tells nothing.
-pub fn low_level(c: SpacePoint, normal: SpacePoint, d: SpacePoint) -> u32
-    requires { Sized limit (spatial c) × Sized limit (spatial d) }
-    ensures { (Holds (row (spatial c) (spatial d)) (spatial normal) → result ≡ digit (sign (dot (row (spatial c) (spatial d)) (spatial normal)))) × (result ≤ 2) }
+pub fn low_level(c: SpacePoint, normal: Normal, d: SpacePoint) -> u32
+    ensures { (Holds (row (spatial c) (spatial d)) (components normal) → result ≡ digit (sign (dot (row (spatial c) (spatial d)) (components normal)))) × (result ≤ 2) }
 {
     level_of(told_by_low(low_dot_of(row_of(c, d), normal)))
 }
@@ -66,7 +67,6 @@ pub fn low_level(c: SpacePoint, normal: SpacePoint, d: SpacePoint) -> u32
 
 // A point of the grid as doubles, which is exact.
 pub fn rough_of(a: SpacePoint) -> RoughPoint
-    requires { Sized limit (spatial a) }
     ensures { result ≡ rough (spatial a) }
 {
     RoughPoint {
@@ -78,7 +78,6 @@ pub fn rough_of(a: SpacePoint) -> RoughPoint
 
 // The plane of a, b, c in doubles. Who asks one plane several times finds it once.
 pub fn plane_at(a: SpacePoint, b: SpacePoint, c: SpacePoint) -> Plane
-    requires { Sized limit (spatial a) × Sized limit (spatial b) × Sized limit (spatial c) }
     ensures { result ≡ plane_of (rough (spatial a)) (rough (spatial b)) (rough (spatial c)) }
 {
     plane_of(rough_of(a), rough_of(b), rough_of(c))
@@ -89,20 +88,20 @@ fn told_first(e: f64, low: u32) -> u32
     ensures { result ≡ (if far_above e then 2 else (if far_below e then 0 else low)) }
 {
     if is_above(e) {
-        return 2;
+        2
+    } else if is_below(e) {
+        0
+    } else {
+        low
     }
-    if is_below(e) {
-        return 0;
-    }
-    low
 }
 
 // The level of d over the plane through a that has this normal, where the plane is held in doubles, too. Where the estimate can't tell the side, that is no
 // larger than twice the error, so that the exact sum decides by its low word. Both are found before either is asked, which spares branches that no
 // processor guesses.
-pub fn level_over(a: SpacePoint, normal: SpacePoint, plane: Plane, d: SpacePoint) -> u32
-    requires { Sized limit (spatial a) × Sized minor_size (spatial normal) × Sized limit (spatial d) × PlaneThrough (spatial a) (spatial normal) plane }
-    ensures { (result ≡ digit (sign (dot (row (spatial a) (spatial d)) (spatial normal)))) × (result ≤ 2) }
+pub fn level_over(a: SpacePoint, normal: Normal, plane: Plane, d: SpacePoint) -> u32
+    requires { PlaneThrough (spatial a) (components normal) plane }
+    ensures { (result ≡ digit (sign (dot (row (spatial a) (spatial d)) (components normal)))) × (result ≤ 2) }
 {
     let e = estimate_of(plane, rough_of(a), rough_of(d));
     told_first(e, low_level(a, normal, d))
@@ -110,7 +109,6 @@ pub fn level_over(a: SpacePoint, normal: SpacePoint, plane: Plane, d: SpacePoint
 
 // The level of d over the plane of a, b, c, by the sign of [a,b,c,d]; likewise.
 pub fn level_at(a: SpacePoint, b: SpacePoint, c: SpacePoint, d: SpacePoint) -> u32
-    requires { Sized limit (spatial a) × Sized limit (spatial b) × Sized limit (spatial c) × Sized limit (spatial d) }
     ensures { (result ≡ level (spatial a) (spatial b) (spatial c) (spatial d)) × (result ≤ 2) }
 {
     level_over(a, normal_at(a, b, c), plane_at(a, b, c), d)

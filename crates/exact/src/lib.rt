@@ -5,9 +5,8 @@
 
 mod determinant;
 mod levels;
+mod points;
 
-pub use determinant::{
-    PlanePoint, Sign, SpacePoint, normal_at, plane_point, side_of, sign_of, space_point, turn_at,
-    turn_of, wide_sign_of,
-};
+pub use determinant::{Sign, normal_at, plane_point, side_of, space_point, turn_at, turn_of};
 pub use levels::{is_narrow, level_at, level_of, level_over, low_level, plane_at, rough_of};
+pub use points::{Normal, PlanePoint, Row, SpacePoint, Triangle};

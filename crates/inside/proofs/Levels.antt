@@ -3,10 +3,6 @@ use mathlib.Core.Path.{◌≡◌, refl, sym, ◌∙◌}
 use mathlib.Core.List.{List, [], ◌∷◌}
 use Prim.Native.Nat.{ℕ, zero, suc}
 use native.Mathlib.Omega.{arith}
-use mathlib.Core.Bool.{cond}
-use borrow.Author.Tests.{eq-eqb, ne_eqb}
-use lib.Dec.{eqb}
-use Rattle.exact.proofs.Branches.{if_taken, if_left}
 use lib.IntN.{ℤ, pos, negsuc}
 use Rattle.shape.specs.Signs.{sign, digit}
 use Rattle.shape.specs.InsideTest.{leading, first_of}
@@ -27,13 +23,6 @@ leading_two (pos zero) (pos (suc m)) = refl
 leading_two (pos zero) (negsuc m) = refl
 leading_two (pos (suc n)) y = refl
 leading_two (negsuc n) y = refl
-
--- ---- two levels compared: the machine's are those of the decision
-pub if_alike : {A : Type 0} {r t s k : ℕ} (x y : A) {answer : A} → r ≡ t → s ≡ k → r ≡ s → answer ≡ x → answer ≡ cond (eqb t k) x y
-if_alike {r} {s} x y e f h = if_taken x y (λ i. eqb (e i) (f i)) (eq-eqb r s h)
-
-pub if_unlike : {A : Type 0} {r t s k : ℕ} (x y : A) {answer : A} → r ≡ t → s ≡ k → (r ≡ s → ⊥) → answer ≡ y → answer ≡ cond (eqb t k) x y
-if_unlike {r} {s} x y e f h = if_left x y (λ i. eqb (e i) (f i)) (ne_eqb r s h)
 
 -- ---- three numbers, by the levels that code takes of them: the first one's, or else the first of the two others'
 module _ (x y z : ℤ) {r : ℕ} (first : r ≡ digit (sign x)) where

@@ -1,26 +1,23 @@
 -- The journal: what it keeps of a change, and of the latest changes of a history.
-use Rattle.std.specs.Prelude.{ℕ, zero, suc, List, [], ◌∷◌, replicate, ℤ, pos, slice_index_or}
+use Rattle.std.specs.Prelude.{ℕ, zero, suc, List, [], ◌∷◌, replicate, pos, slice_index_or}
 use Rattle.slots.specs.Slots.{Slot, free}
 use Rattle.slots.specs.Changes.{Change, place, lift, shift, thrice, replay}
 use Rattle.slots.specs.Arrays.{numbers_of, mark_of}
 use Rattle.keeping.specs.declared.journal.Entry.{Entry}
+use Rattle.keeping.specs.declared.journal.Entry.TheVariants.{Stood, Shift}
 
--- An entry, by its four fields.
-abbrev pub entry : (kind slot mark : ℕ) → List ℤ → Entry
-entry kind slot mark numbers = record { kind = kind; slot = slot; mark = mark; numbers = numbers }
-
--- Nothing.
+-- Nothing: the shift of no part by nothing.
 abbrev pub blank : Entry
-blank = entry 0 0 0 (replicate 9 (pos 0))
+blank = Shift 0 (replicate 9 (pos 0))
 
 -- What the journal keeps of a change that was made to the slots S: of a slot what stood there, of a shift its part and its steps.
 abbrev pub slot_entry : ℕ → Slot → Entry
-slot_entry s x = entry 1 s (mark_of x) (numbers_of x)
+slot_entry s x = Stood s (mark_of x) (numbers_of x)
 
 abbrev pub entry_of : List Slot → Change → Entry
 entry_of S (place s q numbers) = slot_entry s (slice_index_or S s free)
 entry_of S (lift s) = slot_entry s (slice_index_or S s free)
-entry_of S (shift q dx dy dz) = entry 2 0 (suc q) (thrice dx dy dz)
+entry_of S (shift q dx dy dz) = Shift (suc q) (thrice dx dy dz)
 
 -- A journal with room for n entries: those of the latest k changes, the latest first, and then blanks.
 unfoldable pub journal_of : ℕ → List Change → ℕ → List Entry

@@ -5,13 +5,14 @@ use Rattle.slots.specs.Changes.{Change, shifted, apply}
 use Rattle.slots.specs.Arrays.{numbers_of, mark_of}
 use Rattle.slots.specs.Counting.{tally}
 use Rattle.slots.specs.Showing.{FitSlot, Fit, Shown}
-use Rattle.keeping.specs.Journal.{entry, slot_entry, entry_of}
+use Rattle.keeping.specs.Journal.{slot_entry, entry_of}
 use Rattle.keeping.specs.declared.plates.Plate.{Plate}
 use Rattle.keeping.specs.declared.journal.Entry.{Entry}
+use Rattle.keeping.specs.declared.journal.Entry.TheVariants.{Shift}
 
 -- A plate with these slots, this journal and this reach, and the count of the slots.
 pub record Shows (S : List Slot) (j : List Entry) (k : ℕ) (p : Plate) : Type 0 where
-  pub slots : Shown S p.coords p.parts
+  pub slots : Shown S p.slots.coords p.slots.marks
   pub journal : p.journal ≡ j
   pub reach : p.reach ≡ k
   pub count : p.count ≡ tally S
@@ -36,7 +37,7 @@ pub record Nudged (p : Plate) (mark : ℕ) (by : List ℤ) (r : Plate) : Type 0 
 -- A part moved, with its steps noted.
 pub record Slid (p : Plate) (mark : ℕ) (by : List ℤ) (r : Plate) : Type 0 where
   pub is : {S : List Slot} {j : List Entry} {k : ℕ} (q : ℕ) → Shows S j k p → mark ≡ suc q → Fit (map (shifted q by) S)
-      → Shows (map (shifted q by) S) (entry 2 0 (suc q) by ∷ take 31 j) (min 32 (suc k)) r
+      → Shows (map (shifted q by) S) (Shift (suc q) by ∷ take 31 j) (min 32 (suc k)) r
 
 -- What an entry of the journal keeps, put back.
 pub record Restored (p : Plate) (e : Entry) (r : Plate) : Type 0 where

@@ -3,53 +3,44 @@
 ghost use Rattle.std.specs.Prelude.{◌≡◌, suc, min, [], ◌∷◌, ◌++◌, take, drop};
 ghost use Rattle.keeping.specs.Journal.{blank};
 
-// Kind 0: nothing. Kind 1, a place or a lift: the slot, with the mark and the numbers that stood there before. Kind 2, a shift: the mark of
-// its part, and the steps of the nine numbers of a triangle.
 #[derive(Clone, Copy)]
-pub struct Entry {
-    pub kind: u8,
-    pub slot: usize,
-    pub mark: u8,
-    pub numbers: [i32; 9],
+pub enum Entry {
+    // Of a place or a lift: the slot, with the mark and the numbers that stood there before.
+    Stood {
+        slot: usize,
+        mark: u8,
+        numbers: [i32; 9],
+    },
+    // Of a shift: the mark of its part, and the steps of the nine numbers of a triangle. A blank is one of mark 0 by nothing.
+    Shift {
+        mark: u8,
+        by: [i32; 9],
+    },
 }
 
 pub fn blank_entry() -> Entry
     ensures { result ≡ blank }
 {
-    Entry {
-        kind: 0,
-        slot: 0,
+    Entry::Shift {
         mark: 0,
-        numbers: [0i32; 9],
+        by: [0; 9],
     }
 }
 
 // The journal after a change. The oldest entry falls out.
-pub fn pushed(old: [Entry; 32], latest: Entry) -> [Entry; 32]
-    ensures { result ≡ latest ∷ take 31 old }
+pub fn pushed(mut journal: [Entry; 32], latest: Entry) -> [Entry; 32]
+    ensures { result ≡ latest ∷ take 31 journal }
 {
-    let mut journal = old;
+    journal.copy_within(0..31, 1);
     journal[0] = latest;
-    let mut n: usize = 0;
-    while n < 31 {
-        let e = old[n];
-        journal[1 + n] = e;
-        n += 1;
-    }
     journal
 }
 
 // The journal after an undo.
-pub fn popped(old: [Entry; 32]) -> [Entry; 32]
-    ensures { result ≡ drop 1 old ++ (blank ∷ []) }
+pub fn popped(mut journal: [Entry; 32]) -> [Entry; 32]
+    ensures { result ≡ drop 1 journal ++ (blank ∷ []) }
 {
-    let mut journal = old;
-    let mut n: usize = 0;
-    while n < 31 {
-        let e = old[n + 1];
-        journal[n] = e;
-        n += 1;
-    }
+    journal.copy_within(1..32, 0);
     journal[31] = blank_entry();
     journal
 }
@@ -58,5 +49,5 @@ pub fn popped(old: [Entry; 32]) -> [Entry; 32]
 pub fn raised(reach: usize) -> usize
     ensures { result ≡ min 32 (suc reach) }
 {
-    if reach < 32 { reach + 1 } else { 32 }
+    reach.min(31) + 1
 }

@@ -6,13 +6,11 @@ ghost use Rattle.moving.specs.Moves.{steps};
 ghost use Rattle.keeping.specs.Steps.{Written, Nudged, Noted, Changed, Slid, Restored};
 
 use crate::journal::{Entry, pushed, raised};
-use slots::{copy_numbers, move_part, part_clashes, slot_clashes};
+use slots::Slots;
 
-// Slot i has the nine coordinates from 9 * i on (zeros where it is empty), and in `parts` 0 where it is empty, else its part number plus one.
 #[derive(Clone, Copy)]
 pub struct Plate {
-    pub coords: [i32; 576],
-    pub parts: [u8; 64],
+    pub slots: Slots,
     pub journal: [Entry; 32],
     pub reach: usize,
     pub count: u32,
@@ -23,43 +21,31 @@ fn written(plate: Plate, slot: usize, mark: u8, numbers: &[i32]) -> Plate
     requires { (slot < 64) × (length numbers.now ≡ 9) }
     ensures { Written plate slot mark numbers.now result }
 {
-    let mut coords = plate.coords;
-    let mut parts = plate.parts;
-    let less = slot_clashes(&coords[..], &parts[..], slot);
-    copy_numbers(&mut coords[9 * slot..9 * slot + 9], numbers);
-    parts[slot] = mark;
-    let more = slot_clashes(&coords[..], &parts[..], slot);
-    let rest = std::num::wrapping_sub_u32(plate.count, less);
-    let count = std::num::wrapping_add_u32(rest, more);
-    let journal = plate.journal;
+    let mut slots = plate.slots;
+    let less = slots.slot_clashes(slot);
+    slots.write(slot, mark, numbers);
+    let more = slots.slot_clashes(slot);
+    let count = plate.count.wrapping_sub(less).wrapping_add(more);
     Plate {
-        coords: coords,
-        parts: parts,
-        journal: journal,
-        reach: plate.reach,
-        count: count,
+        slots,
+        count,
+        ..plate
     }
 }
 
 // Moves the slots of a mark.
-fn nudged(plate: Plate, mark: u8, by: &[i32], back: bool) -> Plate
-    requires { length by.now ≡ 9 }
+fn nudged(plate: Plate, mark: u8, by: &[i32; 9], back: bool) -> Plate
     ensures { Nudged plate mark (steps back by.now) result }
 {
-    let mut coords = plate.coords;
-    let parts = plate.parts;
-    let less = part_clashes(&coords[..], &parts[..], mark);
-    move_part(&mut coords[..], &parts[..], mark, by, back);
-    let more = part_clashes(&coords[..], &parts[..], mark);
-    let rest = std::num::wrapping_sub_u32(plate.count, less);
-    let count = std::num::wrapping_add_u32(rest, more);
-    let journal = plate.journal;
+    let mut slots = plate.slots;
+    let less = slots.part_clashes(mark);
+    slots.move_part(mark, by, back);
+    let more = slots.part_clashes(mark);
+    let count = plate.count.wrapping_sub(less).wrapping_add(more);
     Plate {
-        coords: coords,
-        parts: parts,
-        journal: journal,
-        reach: plate.reach,
-        count: count,
+        slots,
+        count,
+        ..plate
     }
 }
 
@@ -67,15 +53,10 @@ fn nudged(plate: Plate, mark: u8, by: &[i32], back: bool) -> Plate
 fn noted(plate: Plate, latest: Entry) -> Plate
     ensures { Noted plate latest result }
 {
-    let coords = plate.coords;
-    let parts = plate.parts;
-    let old = plate.journal;
     Plate {
-        coords: coords,
-        parts: parts,
-        journal: pushed(old, latest),
+        journal: pushed(plate.journal, latest),
         reach: raised(plate.reach),
-        count: plate.count,
+        ..plate
     }
 }
 
@@ -84,14 +65,11 @@ pub fn changed(plate: Plate, slot: usize, mark: u8, numbers: &[i32]) -> Plate
     requires { (slot < 64) × (length numbers.now ≡ 9) }
     ensures { Changed plate slot mark numbers.now result }
 {
-    let coords = plate.coords;
-    let mut stood = [0i32; 9];
-    copy_numbers(&mut stood[..], &coords[9 * slot..9 * slot + 9]);
-    let was = plate.parts[slot];
-    let latest = Entry {
-        kind: 1,
-        slot: slot,
-        mark: was,
+    let mut stood = [0; 9];
+    stood.copy_from_slice(plate.slots.numbers(slot));
+    let latest = Entry::Stood {
+        slot,
+        mark: plate.slots.marks[slot],
         numbers: stood,
     };
     written(noted(plate, latest), slot, mark, numbers)
@@ -101,26 +79,20 @@ pub fn changed(plate: Plate, slot: usize, mark: u8, numbers: &[i32]) -> Plate
 pub fn slid(plate: Plate, mark: u8, by: [i32; 9]) -> Plate
     ensures { Slid plate mark by result }
 {
-    let latest = Entry {
-        kind: 2,
-        slot: 0,
-        mark: mark,
-        numbers: by,
-    };
-    nudged(noted(plate, latest), mark, &by[..], false)
+    nudged(noted(plate, Entry::Shift { mark, by }), mark, &by, false)
 }
 
 // Puts back what an entry of the journal keeps.
 pub fn restored(plate: Plate, latest: Entry) -> Plate
     ensures { Restored plate latest result }
 {
-    let numbers = latest.numbers;
-    if latest.kind == 1 {
-        let slot = latest.slot;
-        if slot < 64 {
-            return written(plate, slot, latest.mark, &numbers[..]);
-        }
-        return plate;
+    match latest {
+        Entry::Stood {
+            slot,
+            mark,
+            numbers,
+        } if slot < 64 => written(plate, slot, mark, &numbers),
+        Entry::Stood { .. } => plate,
+        Entry::Shift { mark, by } => nudged(plate, mark, &by, true),
     }
-    nudged(plate, latest.mark, &numbers[..], true)
 }

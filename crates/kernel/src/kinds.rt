@@ -9,7 +9,7 @@ use exact::turn_of;
 use space::{is_null, normal_of, space_triangle};
 
 // A triangle of the flat test has six numbers, one that is placed nine.
-#[derive(Clone, Copy)]
+#[derive(Clone, Copy, PartialEq, Eq, Debug)]
 pub enum Kind {
     PlaneTriangle,
     SpaceTriangle,

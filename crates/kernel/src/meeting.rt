@@ -61,12 +61,12 @@ pub fn meet_by_standings(narrow: bool, t: &[i32], s: u32, u: &[i32], r: u32) -> 
     ensures { Judges 3 3 3 t.now u.now result }
 {
     if r == 1 {
-        return close_meet(&u[..], &t[..]);
+        close_meet(&u[..], &t[..])
+    } else if s == 1 {
+        close_meet(&t[..], &u[..])
+    } else {
+        crossing(narrow, &t[..], s, &u[..], r)
     }
-    if s == 1 {
-        return close_meet(&t[..], &u[..]);
-    }
-    crossing(narrow, &t[..], s, &u[..], r)
 }
 
 // ---- the same at once
@@ -84,9 +84,10 @@ fn standing_to(t: &[i32], u: &[i32]) -> u32
     let plane = plane_at(corners.p, corners.q, corners.r);
     let seen = space::estimated_standing(&t[..], &u[..], plane);
     if seen < 16 {
-        return seen;
+        seen
+    } else {
+        space::exact_standing(&t[..], &u[..], n, plane)
     }
-    space::exact_standing(&t[..], &u[..], n, plane)
 }
 
 // Whether they have a point in common.
@@ -99,10 +100,7 @@ pub fn triangles_meet(first: &[i32], second: &[i32]) -> bool
         return false;
     }
     let r = standing_to(&second[..], &first[..]);
-    if r == 0 {
-        return false;
-    }
-    meet_by_standings(false, &first[..], s, &second[..], r)
+    r != 0 && meet_by_standings(false, &first[..], s, &second[..], r)
 }
 
 // Writes the normal of a triangle, for those who ask of the same triangle often.
@@ -111,12 +109,7 @@ pub fn put_normal(normal: &mut [i64], corners: &[i32])
     ensures { normal.new ≡ normal_in corners.now }
 {
     let n = normal_of(space_triangle(corners));
-    let x = n.x;
-    let y = n.y;
-    let z = n.z;
-    normal[0] = x;
-    normal[1] = y;
-    normal[2] = z;
+    normal.copy_from_slice(&[n.x, n.y, n.z]);
 }
 
 // Writes the plane of a triangle in doubles.
@@ -126,10 +119,5 @@ pub fn put_plane(plane: &mut [f64], corners: &[i32])
 {
     let t = space_triangle(corners);
     let p = plane_at(t.p, t.q, t.r);
-    let x = p.x;
-    let y = p.y;
-    let z = p.z;
-    plane[0] = x;
-    plane[1] = y;
-    plane[2] = z;
+    plane.copy_from_slice(&[p.x, p.y, p.z]);
 }

@@ -4,17 +4,18 @@ use mathlib.Core.Path.{◌≡◌, refl, sym, ap, ◌∙◌}
 use mathlib.Core.Bool.{Bool}
 use mathlib.Core.List.{List}
 use Prim.Native.Nat.{ℕ, ◌+◌, ◌-◌, ◌<◌}
+use Rattle.std.specs.Prelude.{Result, Ok, Err}
 use native.Mathlib.Omega.{arith}
 use lib.IntN.{ℤ}
 use lib.ListN.{length}
 use Rattle.shape.proofs.VerdictLaws.{says_fixed}
 use Rattle.checks.specs.Answers.{Answer, served, refused, Check, fine, ◌then◌, with_served}
+use Rattle.checks.specs.declared.answer.Refusal.{Refusal}
+use Rattle.checks.proofs.ReadBack.{refusal_back, refusal_back_law}
 use Rattle.boxes.specs.Triangles.{triangles}
 use Rattle.listing.specs.Pairs.{Pair, gathered, pair_if, pairs_of}
 use Rattle.listing.specs.Rules.{input_checks, room_for, outcome, afterwards, ListRule}
 use Rattle.listing.specs.Told.{told_list}
-use Rattle.listing.specs.declared.answer.ListAnswer.{ListAnswer}
-use Rattle.listing.specs.declared.answer.ListAnswer.TheVariants.{Listed, Refused}
 use Rattle.listing.proofs.Gathering.{gathered_same}
 
 -- Verdicts that agree below both counts list the same pairs.
@@ -47,21 +48,21 @@ module _ {a b : List ℤ} {buffer : List ℕ} {start : ℕ} {answer answer' : An
       (r.told ∙ ap (with_served length) same_outcome ∙ sym s.told, r.left ∙ ap (afterwards buffer start) same_outcome ∙ sym s.left)
 
 -- ---- an answer is read back off what it tells
-answer_back : Answer ℕ → ListAnswer
-answer_back (served pairs) = Listed pairs
-answer_back (refused number side place) = Refused (record { number = number; side = side; place = place })
+answer_back : Answer ℕ → Result ℕ Refusal
+answer_back (served pairs) = Ok pairs
+answer_back (refused number side place) = Err (refusal_back number side place)
 
-answer_back_law : (r : ListAnswer) → answer_back (told_list r) ≡ r
+answer_back_law : (r : Result ℕ Refusal) → answer_back (told_list r) ≡ r
 unfolding answer_back
-answer_back_law (Listed pairs) = refl
-answer_back_law (Refused why) = refl
+answer_back_law (Ok pairs) = refl
+answer_back_law (Err why) = ap Err (refusal_back_law why)
 
 -- So two answers that tell the same are equal.
-pub told_list_fixed : (r r' : ListAnswer) → told_list r ≡ told_list r' → r ≡ r'
+pub told_list_fixed : (r r' : Result ℕ Refusal) → told_list r ≡ told_list r' → r ≡ r'
 told_list_fixed r r' e = sym (answer_back_law r) ∙ ap answer_back e ∙ answer_back_law r'
 
 -- Two answers, and two buffers afterwards, that meet the contract of `list_pairs` are equal.
-pub listing_unique : {a b : List ℤ} {buffer : List ℕ} {start : ℕ} {after after' : List ℕ} (r r' : ListAnswer) →
+pub listing_unique : {a b : List ℤ} {buffer : List ℕ} {start : ℕ} {after after' : List ℕ} (r r' : Result ℕ Refusal) →
     ListRule a b buffer start (told_list r) after → ListRule a b buffer start (told_list r') after' → (r ≡ r') × (after ≡ after')
 listing_unique r r' rule rule' =
     let same = list_unique rule rule' in

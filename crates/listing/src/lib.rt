@@ -6,10 +6,8 @@
 // second buffer meet the contract.
 #![tactic(auto)]
 
-mod answer;
 mod input;
 mod pairs;
 mod writing;
 
-pub use answer::ListAnswer;
 pub use pairs::list_pairs;

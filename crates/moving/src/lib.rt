@@ -1,4 +1,4 @@
-// Numbers of the grid moved by steps that may be any signed 32-bit numbers. Every sum is made in 64 bits, where it can't overflow. Like
+// Numbers of the grid moved by steps that may be any signed 32-bit numbers. A sum that 32 bits can't hold is off the grid. Like
 // crate `kernel`, this is the inside of the calls: it offers none itself.
 #![tactic(auto)]
 

@@ -5,25 +5,22 @@
 ghost use Rattle.std.specs.Prelude.{◌≡◌};
 ghost use Rattle.shape.specs.Points.{point_at};
 ghost use Rattle.shape.specs.PlaneTest.{is_right, corner_in, last_edges, triangle_past_one, triangle_past_two, triangle_test, segment_past_one, segment_past_two, segment_test};
-ghost use Rattle.exact.specs.Grid.{limit, Ready};
-ghost use Rattle.exact.specs.Vectors.{planar, Sized};
-ghost use Rattle.plane.specs.Planes.{SizedTriangle, turned_once, left_ordered, SortedAs, PlaneAt, of_corners, of_both};
+ghost use Rattle.exact.specs.Grid.{Ready};
+ghost use Rattle.exact.specs.Vectors.{planar};
+ghost use Rattle.plane.specs.Planes.{turned_once, left_ordered, SortedAs, PlaneAt, of_corners, of_both};
 
-use exact::{PlanePoint, plane_point, turn_at};
+use exact::{PlanePoint, Triangle, plane_point, turn_at};
 
 // A triangle of the plane.
-#[derive(Clone, Copy)]
-pub struct PlaneTriangle {
-    pub p: PlanePoint,
-    pub q: PlanePoint,
-    pub r: PlanePoint,
-}
+pub type PlaneTriangle = Triangle<PlanePoint>;
 
-// A triangle turned so that the edges come last that some point is strictly right of, its past edges: none, one or two.
+// How some point stands to a triangle that turns left: it is in it, or strictly right of one edge or of two, its past edges. The triangle is turned
+// then so that those come last.
 #[derive(Clone, Copy)]
-pub struct Sorted {
-    pub past: u32,
-    pub of: PlaneTriangle,
+pub enum Sorted {
+    Inside,
+    PastOne(PlaneTriangle),
+    PastTwo(PlaneTriangle),
 }
 
 // The triangle that fills a list of six numbers.
@@ -31,7 +28,7 @@ pub fn plane_triangle(numbers: &[i32]) -> PlaneTriangle
     requires { Ready 6 numbers.now }
     ensures { PlaneAt (point_at 2 0 numbers.now) (point_at 2 2 numbers.now) (point_at 2 4 numbers.now) result }
 {
-    PlaneTriangle {
+    Triangle {
         p: plane_point(numbers, 0),
         q: plane_point(numbers, 2),
         r: plane_point(numbers, 4),
@@ -40,7 +37,6 @@ pub fn plane_triangle(numbers: &[i32]) -> PlaneTriangle
 
 // Whether c lies strictly right of a → b.
 fn right_of(a: PlanePoint, b: PlanePoint, c: PlanePoint) -> bool
-    requires { Sized limit (planar a) × Sized limit (planar b) × Sized limit (planar c) }
     ensures { result ≡ is_right (planar a) (planar b) (planar c) }
 {
     turn_at(a, b, c) < 0
@@ -50,180 +46,145 @@ fn right_of(a: PlanePoint, b: PlanePoint, c: PlanePoint) -> bool
 fn turned(t: PlaneTriangle) -> PlaneTriangle
     ensures { result ≡ turned_once t }
 {
-    let p = t.p;
-    let q = t.q;
-    let r = t.r;
-    PlaneTriangle { p: q, q: r, r: p }
+    Triangle {
+        p: t.q,
+        q: t.r,
+        r: t.p,
+    }
 }
 
 // The triangle so that its corners turn left: where they turn right, two trade places.
 fn left_order(t: PlaneTriangle) -> PlaneTriangle
-    requires { SizedTriangle limit t }
     ensures { result ≡ left_ordered t }
 {
-    let p = t.p;
-    let q = t.q;
-    let r = t.r;
-    if right_of(p, q, r) {
-        return PlaneTriangle { p: p, q: r, r: q };
+    if right_of(t.p, t.q, t.r) {
+        Triangle {
+            p: t.p,
+            q: t.r,
+            r: t.q,
+        }
+    } else {
+        t
     }
-    PlaneTriangle { p: p, q: q, r: r }
 }
 
 // A triangle that turns left, sorted by the signs of p against its edges.
 fn sorted_by(p: PlanePoint, t: PlaneTriangle) -> Sorted
-    requires { Sized limit (planar p) × SizedTriangle limit t }
     ensures { SortedAs (planar p) t result }
 {
     let once = turned(t);
     let twice = turned(once);
     if right_of(t.p, t.q, p) {
         if right_of(t.q, t.r, p) {
-            return Sorted { past: 2, of: twice };
+            Sorted::PastTwo(twice)
+        } else if right_of(t.r, t.p, p) {
+            Sorted::PastTwo(once)
+        } else {
+            Sorted::PastOne(once)
         }
+    } else if right_of(t.q, t.r, p) {
         if right_of(t.r, t.p, p) {
-            return Sorted { past: 2, of: once };
+            Sorted::PastTwo(t)
+        } else {
+            Sorted::PastOne(twice)
         }
-        return Sorted { past: 1, of: once };
+    } else if right_of(t.r, t.p, p) {
+        Sorted::PastOne(t)
+    } else {
+        Sorted::Inside
     }
-    if right_of(t.q, t.r, p) {
-        if right_of(t.r, t.p, p) {
-            return Sorted { past: 2, of: t };
-        }
-        return Sorted { past: 1, of: twice };
-    }
-    if right_of(t.r, t.p, p) {
-        return Sorted { past: 1, of: t };
-    }
-    Sorted { past: 0, of: t }
 }
 
-// Where p1 → q1 passes beyond p2: p2 is in the first triangle.
+// Where p1 → q1 passes beyond p2: p2 is in the first triangle. It is not where all of the second is right of r1 → p1, which is asked first.
 fn corner_in(first: PlaneTriangle, second: PlaneTriangle) -> bool
-    requires { SizedTriangle limit first × SizedTriangle limit second }
     ensures { result ≡ corner_in (planar first.p) (planar first.q) (planar first.r) (planar second.p) }
 {
-    if right_of(first.p, second.p, first.r) {
-        return false; // all of the second is right of r1 → p1
-    }
-    !right_of(first.q, first.r, second.p)
+    !right_of(first.p, second.p, first.r) && !right_of(first.q, first.r, second.p)
 }
 
 // The edges q1 → r1 and q2 → r2 cross.
 fn last_edges(first: PlaneTriangle, second: PlaneTriangle) -> bool
-    requires { SizedTriangle limit first × SizedTriangle limit second }
     ensures { result ≡ last_edges (planar first.q) (planar first.r) (planar second.q) (planar second.r) }
 {
-    if right_of(first.q, first.r, second.q) {
-        return false;
-    }
-    !right_of(second.q, second.r, first.r)
+    !right_of(first.q, first.r, second.q) && !right_of(second.q, second.r, first.r)
 }
 
 // p1 is strictly right of r2 → p2 and of no other edge.
 fn past_one(first: PlaneTriangle, second: PlaneTriangle) -> bool
-    requires { SizedTriangle limit first × SizedTriangle limit second }
     ensures { result ≡ of_both triangle_past_one first second }
 {
     if right_of(second.r, second.p, first.q) {
-        if right_of(second.r, second.p, first.r) {
-            return false; // all of the first is right of r2 → p2
-        }
-        if right_of(first.q, first.r, second.r) {
-            return false; // all of the second is right of q1 → r1
-        }
-        return !right_of(first.p, second.p, first.r);
+        // not where all of the first is right of r2 → p2, or all of the second is right of q1 → r1
+        !right_of(second.r, second.p, first.r)
+            && !right_of(first.q, first.r, second.r)
+            && !right_of(first.p, second.p, first.r)
+    } else if right_of(first.p, second.p, first.q) {
+        corner_in(first, second)
+    } else {
+        !right_of(second.r, first.p, first.q)
     }
-    if right_of(first.p, second.p, first.q) {
-        return corner_in(first, second);
-    }
-    !right_of(second.r, first.p, first.q)
 }
 
 // p1 is strictly right of q2 → r2 and of r2 → p2.
 fn past_two(first: PlaneTriangle, second: PlaneTriangle) -> bool
-    requires { SizedTriangle limit first × SizedTriangle limit second }
     ensures { result ≡ of_both triangle_past_two first second }
 {
     if right_of(second.r, second.p, first.q) {
         if right_of(second.r, second.p, first.r) {
-            return false; // all of the first is right of r2 → p2
+            false // all of the first is right of r2 → p2
+        } else if right_of(first.q, first.r, second.r) {
+            last_edges(first, second)
+        } else {
+            !right_of(first.p, second.p, first.r) // p2 in the first triangle, or q1 → r1 across r2 → p2
         }
-        if right_of(first.q, first.r, second.r) {
-            return last_edges(first, second);
-        }
-        return !right_of(first.p, second.p, first.r); // p2 in the first triangle, or q1 → r1 across r2 → p2
-    }
-    if right_of(second.q, second.r, first.q) {
+    } else if right_of(second.q, second.r, first.q) {
         if right_of(second.q, first.p, first.q) {
-            return false; // all of the second is right of p1 → q1
+            false // all of the second is right of p1 → q1
+        } else {
+            last_edges(first, second)
         }
-        return last_edges(first, second);
+    } else if right_of(first.p, second.p, first.q) {
+        corner_in(first, second)
+    } else {
+        !right_of(second.q, first.p, first.q)
     }
-    if right_of(first.p, second.p, first.q) {
-        return corner_in(first, second);
-    }
-    !right_of(second.q, first.p, first.q)
 }
 
 // Whether two triangles that are not flat have a point in common.
 pub fn planes_meet(t: PlaneTriangle, u: PlaneTriangle) -> bool
-    requires { SizedTriangle limit t × SizedTriangle limit u }
     ensures { result ≡ of_both triangle_test t u }
 {
     let first = left_order(t);
-    let sorted = sorted_by(first.p, left_order(u));
-    if sorted.past == 0 {
-        return true; // p1 is in the second triangle
+    match sorted_by(first.p, left_order(u)) {
+        Sorted::Inside => true, // p1 is in the second triangle
+        Sorted::PastOne(second) => past_one(first, second),
+        Sorted::PastTwo(second) => past_two(first, second),
     }
-    if sorted.past == 1 {
-        return past_one(first, sorted.of);
-    }
-    past_two(first, sorted.of)
 }
 
-// p is strictly right of r → p of the triangle t and of no other edge.
+// p is strictly right of r → p of the triangle t and of no other edge. They are apart where q is right of it, too, or where all of the triangle is right
+// of p → q.
 fn segment_past_one(p: PlanePoint, q: PlanePoint, t: PlaneTriangle) -> bool
-    requires { Sized limit (planar p) × Sized limit (planar q) × SizedTriangle limit t }
     ensures { result ≡ of_corners (segment_past_one (planar p) (planar q)) t }
 {
-    if right_of(t.r, t.p, q) {
-        return false; // so is q
-    }
-    if right_of(t.r, p, q) {
-        return false; // all of the triangle is right of p → q
-    }
-    !right_of(p, t.p, q)
+    !right_of(t.r, t.p, q) && !right_of(t.r, p, q) && !right_of(p, t.p, q)
 }
 
-// p is strictly right of q → r and of r → p of the triangle t.
+// p is strictly right of q → r and of r → p of the triangle t. They are apart where q is right of one of these edges, too, or where all of the triangle
+// is left of p → q.
 fn segment_past_two(p: PlanePoint, q: PlanePoint, t: PlaneTriangle) -> bool
-    requires { Sized limit (planar p) × Sized limit (planar q) × SizedTriangle limit t }
     ensures { result ≡ of_corners (segment_past_two (planar p) (planar q)) t }
 {
-    if right_of(t.q, t.r, q) {
-        return false; // q is right of the same edge
-    }
-    if right_of(t.r, t.p, q) {
-        return false;
-    }
-    if right_of(p, t.p, q) {
-        return false; // all of the triangle is left of p → q
-    }
-    !right_of(t.q, p, q)
+    !right_of(t.q, t.r, q) && !right_of(t.r, t.p, q) && !right_of(p, t.p, q) && !right_of(t.q, p, q)
 }
 
 // Whether a segment and a triangle that is not flat have a point in common.
 pub fn segment_meets_plane(p: PlanePoint, q: PlanePoint, t: PlaneTriangle) -> bool
-    requires { Sized limit (planar p) × Sized limit (planar q) × SizedTriangle limit t }
     ensures { result ≡ of_corners (segment_test (planar p) (planar q)) t }
 {
-    let sorted = sorted_by(p, left_order(t));
-    if sorted.past == 0 {
-        return true; // p is in the triangle
+    match sorted_by(p, left_order(t)) {
+        Sorted::Inside => true, // p is in the triangle
+        Sorted::PastOne(sorted) => segment_past_one(p, q, sorted),
+        Sorted::PastTwo(sorted) => segment_past_two(p, q, sorted),
     }
-    if sorted.past == 1 {
-        return segment_past_one(p, q, sorted.of);
-    }
-    segment_past_two(p, q, sorted.of)
 }

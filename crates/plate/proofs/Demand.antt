@@ -38,7 +38,7 @@ demand_3 (after {before} {c} {r} m k) = let s = demand_3 m in stands_next r (out
 
 -- The slots, as the two arrays show them, are the replay of the changes that stand. (proofs/Faithful.antt: the arrays tell the slots.)
 pub demand_3_slots : {calls : List Call} {p : Plate} → MadeBy calls p →
-    (p.coords ≡ flat (replay (run calls).past)) × (p.parts ≡ map mark_of (replay (run calls).past))
+    (p.slots.coords ≡ flat (replay (run calls).past)) × (p.slots.marks ≡ map mark_of (replay (run calls).past))
 demand_3_slots m = let s = demand_3 m in (s.coords, s.parts)
 
 -- The count is the number of clashing pairs among them.
@@ -71,13 +71,13 @@ place_fine S s q numbers e =
 module _ (before : List Call) {p : Plate} {s q : ℕ} {numbers : List ℤ} {r : PlateAnswer} (stands : Stands (run before) p)
     (k : Promise p (change (place s q numbers)) r) (accepted : change_checks (slots_of (run before)) (place s q numbers) ≡ fine) where
   pub place_appears :
-      (r.plate.coords ≡ flat (set (slots_of (run before)) s (held q numbers)))
-      × (r.plate.parts ≡ map mark_of (set (slots_of (run before)) s (held q numbers)))
+      (r.plate.slots.coords ≡ flat (set (slots_of (run before)) s (held q numbers)))
+      × (r.plate.slots.marks ≡ map mark_of (set (slots_of (run before)) s (held q numbers)))
   unfolding replay apply
   place_appears = let after = (change_made before stands k accepted).1 in (after.coords, after.parts)
 
   -- The mark of that slot was 0 and is not 0 after it. So a plate that does nothing keeps no promise.
-  pub place_marks : (get_or p.parts s 0 ≡ 0) × (get_or r.plate.parts s 0 ≡ suc q)
+  pub place_marks : (get_or p.slots.marks s 0 ≡ 0) × (get_or r.plate.slots.marks s 0 ≡ suc q)
   place_marks =
       let S = slots_of (run before) in
       let known = place_fine S s q numbers accepted in

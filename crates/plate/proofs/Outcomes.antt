@@ -19,7 +19,7 @@ use Rattle.keeping.specs.Journal.{blank, entry_of, journal_of}
 use Rattle.keeping.specs.Steps.{Shows, Restored}
 use Rattle.keeping.specs.declared.plates.Plate.{Plate}
 use Rattle.keeping.specs.declared.journal.Entry.{Entry}
-use Rattle.keeping.proofs.Past.{unread, journal_push, journal_top, journal_pop}
+use Rattle.keeping.proofs.Past.{journal_push, journal_top, journal_pop}
 use Rattle.reasons.specs.Findings.{undo_found}
 use Rattle.reasons.specs.Rules.{change_checks}
 use Rattle.plate.specs.Histories.{History, slots_of, Call, change, undo, made, taken_back, outcome, run}
@@ -48,10 +48,6 @@ standing h p s = record {
   reach = s.reach;
   journal = s.journal;
 }
-
--- Its marks tell which parts are present. The mark of a part is one more than its number.
-pub present : (q : ℕ) {h : History} {p : Plate} → Stands h p → some (has_mark (q + 1)) p.parts ≡ some (is_of q) (slots_of h)
-present q {h} s = (λ i. some (has_mark (add-one q i)) (s.parts i)) ∙ some_mark q (slots_of h)
 
 -- ---- a call refused, and a change made
 pub refusal : {o : Answer History} {p : Plate} (r : PlateAnswer) {n s k : ℕ} → o ≡ refused n s k → told_check r.told ≡ refused n s k →
@@ -102,27 +98,27 @@ undo_ahead k e none = never_fine e (ap undo_found none)
 
 -- The plate with its journal's latest entry taken out.
 abbrev popped : Plate → List Entry → Plate
-popped p j = record { coords = p.coords; parts = p.parts; journal = j; reach = p.reach - 1; count = p.count }
+popped p j = record { slots = p.slots; journal = j; reach = p.reach - 1; count = p.count }
 
--- What that entry keeps, put back, gives the history before its latest change.
-undone : (past : List Change) (n : ℕ) (p : Plate) (j : List Entry) (r : PlateAnswer) →
+-- What that entry keeps, put back, gives the history before its latest change. (Past the journal's end stands z, whatever it is.)
+undone : (z : Entry) (past : List Change) (n : ℕ) (p : Plate) (j : List Entry) (r : PlateAnswer) →
     Sound (record { past = past; reach = n }) → Stands (record { past = past; reach = n }) p → (n ≡ 0 → ⊥) →
-    j ≡ drop 1 p.journal ++ (blank ∷ []) → Restored (popped p j) (get_or p.journal 0 unread) r.plate →
+    j ≡ drop 1 p.journal ++ (blank ∷ []) → Restored (popped p j) (get_or p.journal 0 z) r.plate →
     told_check r.told ≡ fine → Answered (taken_back past n) p r
 unfolding replay
-undone past zero p j r sd st ahead e back told = absurd (ahead refl)
-undone [] (suc k) p j r sd st ahead e back told = absurd (omega (arith, sd.within))
-undone (c ∷ past) (suc k) p j r sd st ahead e back told =
+undone z past zero p j r sd st ahead e back told = absurd (ahead refl)
+undone z [] (suc k) p j r sd st ahead e back told = absurd (omega (arith, sd.within))
+undone z (c ∷ past) (suc k) p j r sd st ahead e back told =
     let before = shows (record { past = c ∷ past; reach = suc k }) p (sd.fits 0) st in
-    let latest = ap (λ (l : List Entry). get_or l 0 unread) st.journal ∙ journal_top 31 c past k in
+    let latest = ap (λ (l : List Entry). get_or l 0 z) st.journal ∙ journal_top z 31 c past k in
     let rest = ap (λ (l : List Entry). drop 1 l ++ (blank ∷ [])) st.journal ∙ journal_pop 31 c past k (omega (arith, sd.near)) in
     let now : Shows (replay (c ∷ past)) (journal_of 32 past k) k (popped p j) =
     record { slots = before.slots; journal = e ∙ rest; reach = omega (arith, st.reach); count = before.count } in
     (told, standing (record { past = past; reach = k }) r.plate (back.is (replay past) c (sd.fits 1) latest now))
 
-pub undo_made : (before : List Call) (p : Plate) (j : List Entry) (r : PlateAnswer) → Stands (run before) p → (p.reach ≡ 0 → ⊥) →
-    j ≡ drop 1 p.journal ++ (blank ∷ []) → Restored (popped p j) (get_or p.journal 0 unread) r.plate →
+pub undo_made : (z : Entry) (before : List Call) (p : Plate) (j : List Entry) (r : PlateAnswer) → Stands (run before) p → (p.reach ≡ 0 → ⊥) →
+    j ≡ drop 1 p.journal ++ (blank ∷ []) → Restored (popped p j) (get_or p.journal 0 z) r.plate →
     told_check r.told ≡ fine → Answered (outcome (run before) undo) p r
 unfolding outcome
-undo_made before p j r st ahead e back told =
-    undone (run before).past (run before).reach p j r (sound before) st (λ none. ahead (st.reach ∙ none)) e back told
+undo_made z before p j r st ahead e back told =
+    undone z (run before).past (run before).reach p j r (sound before) st (λ none. ahead (st.reach ∙ none)) e back told

@@ -1,30 +1,34 @@
 -- What the parts call promises, one law for each way out of its code: the marks of a plate tell which parts are present, and what code finds of two that
 -- are is what their skins, their shells and their corners say. Assumes nothing.
-use mathlib.Core.Path.{◌≡◌, refl, sym, ap, ◌∙◌}
+use mathlib.Core.Path.{◌≡◌, refl, ap, ◌∙◌}
 use mathlib.Core.Bool.{Bool, true, false, not, cond}
 use mathlib.Core.List.{List}
-use Prim.Native.Nat.{ℕ, suc, ◌+◌, ◌<◌, ◌≤◌}
-use borrow.Author.Tests.{lt-ltb, le-ltb}
+use Prim.Native.Nat.{ℕ, suc, ◌*◌, ◌/◌, ◌≤◌}
+use native.Mathlib.Omega.{arith}
+use lib.IntN.{ℤ}
+use lib.ListN.{length, take}
 use Rattle.shape.specs.Verdicts.{Says}
 use Rattle.shape.specs.Points.{Shape}
 use Rattle.shape.specs.Shells.{is_closed}
-use Rattle.shape.specs.InsideTest.{corner_in}
+use Rattle.shape.specs.TriangleLists.{triangles_in}
+use Rattle.shape.proofs.TriangleLists.{front_triangles}
 use Rattle.shape.proofs.VerdictLaws.{says_either}
-use Rattle.exact.proofs.Branches.{if_taken, if_left}
+use Rattle.exact.specs.Grid.{limit}
+use Rattle.exact.specs.Sizes.{OnGrid}
+use Rattle.exact.proofs.GridLaws.{small_taken}
 use Rattle.checks.specs.Answers.{Answer, served, refused, Check, fine, ◌then◌}
 use Rattle.slots.specs.Slots.{Slot}
 use Rattle.slots.specs.Parts.{triangles_of, EitherInside}
-use Rattle.shape.specs.Lists.{some}
-use Rattle.slots.specs.Counting.{has_mark, marks_strike}
-use Rattle.slots.specs.Showing.{Shown}
+use Rattle.slots.specs.Counting.{marks_strike}
+use Rattle.slots.specs.Showing.{Shown, Gathered}
 use Rattle.slots.proofs.Clashing.{skins_say}
 use Rattle.slots.proofs.Swallowed.{corner_says}
 use Rattle.keeping.specs.declared.plates.Plate.{Plate}
-use Rattle.reasons.specs.Rules.{parts_checks, shell_checks}
+use Rattle.reasons.specs.Rules.{part_within, part_present, shell_closed, parts_checks, shell_checks}
 use Rattle.plate.specs.Histories.{slots_of, run}
 use Rattle.plate.specs.Plates.{present_answer, PartsRule, PartsPromise}
 use Rattle.plate.specs.Deciding.{either_in}
-use Rattle.plate.proofs.Outcomes.{shown, present}
+use Rattle.plate.proofs.Outcomes.{shown}
 
 -- ---- the rule of two parts
 either_says : (S : List Slot) (p q : ℕ) → Says (either_in S p q) (EitherInside S p q)
@@ -44,75 +48,39 @@ module _ (S : List Slot) (p q : ℕ) {told : Answer Bool} where
     told = e;
   }
 
-  where_refused : {n s k : ℕ} → parts_checks S p q ≡ refused n s k → told ≡ refused n s k → PartsRule S p q told
-  where_refused e t = by_decision (t ∙ sym (ap (λ (c : Check). c then decided S p q) e))
+  -- By what each check finds, those that are made and those that aren't.
+  pub by_checks : {a b c d : Check} → a ≡ part_within 0 p → b ≡ part_within 1 q → c ≡ part_present 0 S p → d ≡ part_present 1 S q →
+      told ≡ ((a then b then c then d) then decided S p q) → PartsRule S p q told
+  by_checks e f g h t = by_decision (t ∙ (λ i. (e i then f i then g i then h i) then decided S p q))
 
-  where_fine : parts_checks S p q ≡ fine → told ≡ decided S p q → PartsRule S p q told
-  where_fine e t = by_decision (t ∙ sym (ap (λ (c : Check). c then decided S p q) e))
-
--- ---- two parts whose skins don't meet, by their triangles as code has gathered them
-abbrev by_shells : List Slot → ℕ → ℕ → Answer Bool
-by_shells S p q = shell_checks S p q then served (either_in S p q)
-
+-- ---- two parts whose skins don't meet
 -- A shell that is found to be open or not.
-closed_as : (S : List Slot) (r : ℕ) {v w : Bool} {Rs : List Shape} → Rs ≡ triangles_of r S → v ≡ not (is_closed Rs) → v ≡ w → is_closed (triangles_of r S) ≡ not w
-closed_as S r {Rs} is e f = ap is_closed (sym is) ∙ sym (twice (is_closed Rs)) ∙ ap not (sym e ∙ f)
+pub shell_found : (side : ℕ) (S : List Slot) (r : ℕ) {Rs : List Shape} {open_ : Bool} {told : Check} → Rs ≡ triangles_of r S → open_ ≡ not (is_closed Rs) →
+    told ≡ cond open_ (refused 16 side r) fine → told ≡ shell_closed side S r
+shell_found side S r {Rs} is e t = t ∙ ap (λ (b : Bool). cond b (refused 16 side r) fine) e ∙ turned (is_closed Rs) ∙ ap (λ (T : List Shape). cond (is_closed T) fine (refused 16 side r)) is
   where
-    twice : (b : Bool) → not (not b) ≡ b
-    twice true = refl
-    twice false = refl
+    turned : (b : Bool) → cond (not b) (refused 16 side r) fine ≡ cond b fine (refused 16 side r)
+    turned true = refl
+    turned false = refl
 
-module _ (S : List Slot) (p q : ℕ) where
-  by_closed : {v w : Bool} → is_closed (triangles_of p S) ≡ v → is_closed (triangles_of q S) ≡ w →
-      by_shells S p q ≡ ((cond v fine (refused 16 0 p) then cond w fine (refused 16 1 q)) then served (either_in S p q))
-  by_closed e f i = (cond (e i) fine (refused 16 0 p) then cond (f i) fine (refused 16 1 q)) then served (either_in S p q)
+-- The triangles of a part as code has gathered them, and the front of the list that has them and no others.
+module _ {coords : List ℤ} {marks : List ℕ} {mark many : ℕ} {l : List ℤ} (g : Gathered coords marks mark l many) where
+  enough : 9 * many ≤ length l
+  enough = omega (arith, g.most, g.ready.long)
 
-  module _ {Ps Qs : List Shape} (first : Ps ≡ triangles_of p S) (second : Qs ≡ triangles_of q S) {v : Bool} (e : v ≡ not (is_closed Ps)) where
-    pub first_open : v ≡ true → by_shells S p q ≡ refused 16 0 p
-    first_open f = by_closed (closed_as S p first e f) refl
+  pub front_gathered : (S : List Slot) (q : ℕ) → Shown S coords marks → mark ≡ suc q → triangles_in (length (take (9 * many) l) / 9) (take (9 * many) l) ≡ triangles_of q S
+  front_gathered S q h e = front_triangles many l enough ∙ g.is S q h e
 
-    pub second_open : {w : Bool} → v ≡ false → w ≡ not (is_closed Qs) → w ≡ true → by_shells S p q ≡ refused 16 1 q
-    second_open f g h = by_closed (closed_as S p first e f) (closed_as S q second g h)
+  pub front_on_grid : OnGrid (take (9 * many) l)
+  front_on_grid = record { each = small_taken limit (9 * many) l g.ready.each }
 
-    both_closed : {w : Bool} → v ≡ false → w ≡ not (is_closed Qs) → w ≡ false → by_shells S p q ≡ served (either_in S p q)
-    both_closed f g h = by_closed (closed_as S p first e f) (closed_as S q second g h)
+-- By what each check of the shells finds.
+pub by_shells : (S : List Slot) (p q : ℕ) {told : Answer Bool} {a b : Check} → a ≡ shell_closed 0 S p → b ≡ shell_closed 1 S q →
+    told ≡ ((a then b) then served (either_in S p q)) → told ≡ (shell_checks S p q then served (either_in S p q))
+by_shells S p q e f t = t ∙ (λ i. (e i then f i) then served (either_in S p q))
 
-    pub first_in : {w x : Bool} → v ≡ false → w ≡ not (is_closed Qs) → w ≡ false → x ≡ corner_in Ps Qs → x ≡ true → by_shells S p q ≡ served true
-    first_in f g h i k =
-        both_closed f g h
-        ∙ ap served (sym (if_taken true (corner_in (triangles_of q S) (triangles_of p S)) (i ∙ (λ l. corner_in (first l) (second l))) k refl))
-
-    pub second_in : {w x y : Bool} → v ≡ false → w ≡ not (is_closed Qs) → w ≡ false → x ≡ corner_in Ps Qs → x ≡ false → y ≡ corner_in Qs Ps → by_shells S p q ≡ served y
-    second_in f g h i k l =
-        both_closed f g h
-        ∙ ap served (sym (if_left true (corner_in (triangles_of q S) (triangles_of p S)) (i ∙ (λ j. corner_in (first j) (second j))) k (l ∙ (λ j. corner_in (second j) (first j)))))
-
--- ---- the ways out
-module _ (plate : Plate) (p q : ℕ) {told : Answer Bool} where
-  pub parts_7_first : 15 < p → told ≡ refused 7 0 p → PartsPromise plate p q told
-  parts_7_first a t = record { kept = λ before s. where_refused (slots_of (run before)) p q (rw (lt-ltb 15 p a)) t }
-
-  pub parts_7_second : p ≤ 15 → 15 < q → told ≡ refused 7 1 q → PartsPromise plate p q told
-  parts_7_second a b t = record { kept = λ before s. where_refused (slots_of (run before)) p q (rw (le-ltb 15 p a, lt-ltb 15 q b)) t }
-
-  module _ (a : p ≤ 15) (b : q ≤ 15) where
-    pub parts_10_first : some (has_mark (p + 1)) plate.parts ≡ false → told ≡ refused 10 0 p → PartsPromise plate p q told
-    parts_10_first d t = record {
-      kept = λ before s. where_refused (slots_of (run before)) p q (rw (le-ltb 15 p a, le-ltb 15 q b, sym (present p s) ∙ d)) t;
-    }
-
-    module _ (d : some (has_mark (p + 1)) plate.parts ≡ true) where
-      pub parts_10_second : some (has_mark (q + 1)) plate.parts ≡ false → told ≡ refused 10 1 q → PartsPromise plate p q told
-      parts_10_second e t = record {
-        kept = λ before s.
-            where_refused (slots_of (run before)) p q
-            (rw (le-ltb 15 p a, le-ltb 15 q b, sym (present p s) ∙ d, sym (present q s) ∙ e)) t;
-      }
-
-      pub parts_told : some (has_mark (q + 1)) plate.parts ≡ true →
-          ((S : List Slot) → Shown S plate.coords plate.parts → told ≡ decided S p q) → PartsPromise plate p q told
-      parts_told e t = record {
-        kept = λ before s.
-            where_fine (slots_of (run before)) p q (rw (le-ltb 15 p a, le-ltb 15 q b, sym (present p s) ∙ d, sym (present q s) ∙ e))
-            (t (slots_of (run before)) (shown before s).slots);
-      }
+-- ---- the promise
+-- Whatever calls made the plate, it shows their slots.
+pub promised : (plate : Plate) (p q : ℕ) {told : Answer Bool} →
+    ((S : List Slot) → Shown S plate.slots.coords plate.slots.marks → PartsRule S p q told) → PartsPromise plate p q told
+promised plate p q rule = record { kept = λ before s. rule (slots_of (run before)) (shown before s).slots }

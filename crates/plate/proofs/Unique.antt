@@ -4,13 +4,14 @@ use mathlib.Core.Path.{◌≡◌, refl, sym, ap, ◌∙◌}
 use mathlib.Core.Bool.{Bool}
 use mathlib.Core.List.{List}
 use Prim.Native.Nat.{ℕ}
+use Rattle.std.specs.Prelude.{Result}
 use Rattle.shape.proofs.VerdictLaws.{says_fixed}
 use Rattle.checks.specs.Answers.{Answer, served, refused, Check, ◌then◌}
 use Rattle.checks.specs.Told.{told_check}
-use Rattle.checks.specs.declared.grid.Checked.{Checked}
-use Rattle.checks.specs.declared.grid.Checked.TheVariants.{Fine, Refused as CheckRefused}
+use Rattle.checks.specs.declared.answer.Refusal.{Refusal}
+use Rattle.checks.proofs.ReadBack.{check_back, check_back_law}
 use Rattle.predicate.specs.Told.{told_verdict}
-use Rattle.predicate.specs.declared.answer.VerdictAnswer.{VerdictAnswer}
+use Rattle.predicate.specs.declared.answer.Verdict.{Verdict}
 use Rattle.predicate.proofs.Unique.{verdict_told}
 use Rattle.slots.specs.Slots.{Slot}
 use Rattle.slots.proofs.Clashing.{clashes_unique}
@@ -28,7 +29,7 @@ stands_unique s t =
     let journal = s.journal ∙ sym t.journal in
     let reach = s.reach ∙ sym t.reach in
     let count = clashes_unique s.count t.count in
-    λ i. record { coords = coords i; parts = parts i; journal = journal i; reach = reach i; count = count i }
+    λ i. record { slots = record { coords = coords i; marks = parts i }; journal = journal i; reach = reach i; count = count i }
 
 -- Place, lift, shift and undo: what is told, and the plate afterwards.
 pub promise_unique : (before : List Call) {p : Plate} {c : Call} (r r' : PlateAnswer) → Stands (run before) p → Promise p c r → Promise p c r' →
@@ -39,20 +40,11 @@ promise_unique before {p} {c} r r' s k k' = by_outcome (outcome (run before) c) 
     by_outcome (served h) a b = (a.0 ∙ sym b.0, stands_unique a.1 b.1)
     by_outcome (refused number side spot) a b = (a.0 ∙ sym b.0, a.1 ∙ sym b.1)
 
--- What a check tells fixes it, so that the two answers are one.
-checked_back : Check → Checked
-checked_back (served u) = Fine
-checked_back (refused number side place) = CheckRefused (record { number = number; side = side; place = place })
-
-checked_back_law : (c : Checked) → checked_back (told_check c) ≡ c
-unfolding checked_back
-checked_back_law Fine = refl
-checked_back_law (CheckRefused why) = refl
-
+-- What is told fixes the two answers, so that they are one.
 pub answer_unique : (before : List Call) {p : Plate} {c : Call} (r r' : PlateAnswer) → Stands (run before) p → Promise p c r → Promise p c r' → r ≡ r'
 answer_unique before r r' s k k' =
     let same = promise_unique before r r' s k k' in
-    let told = sym (checked_back_law r.told) ∙ ap checked_back same.0 ∙ checked_back_law r'.told in
+    let told = sym (check_back_law r.told) ∙ ap check_back same.0 ∙ check_back_law r'.told in
     λ i. record { plate = same.1 i; told = told i }
 
 -- Parts: on the same slots the question has one right answer, and so it has on a plate that stands for a history.
@@ -62,7 +54,7 @@ parts_rule_unique {S} {p} {q} x y =
     ∙ (λ i. parts_checks S p q then present_answer S p q (says_fixed x.skins_right y.skins_right i) (says_fixed x.inside_right y.inside_right i))
     ∙ sym y.told
 
-pub parts_unique : (before : List Call) {plate : Plate} {p q : ℕ} (r r' : VerdictAnswer) → Stands (run before) plate →
+pub parts_unique : (before : List Call) {plate : Plate} {p q : ℕ} (r r' : Result Verdict Refusal) → Stands (run before) plate →
     PartsPromise plate p q (told_verdict r) → PartsPromise plate p q (told_verdict r') → r ≡ r'
 parts_unique before r r' s k k' = verdict_told r r' (parts_rule_unique (k.kept before s) (k'.kept before s))
 

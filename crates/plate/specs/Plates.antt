@@ -16,8 +16,8 @@ use Rattle.plate.specs.declared.calls.PlateAnswer.{PlateAnswer}
 -- The plate stands for the history: its slots are the replay of the changes that stand, its count is true, and its reach and journal are
 -- the history's.
 pub record Stands (h : History) (p : Plate) : Type 0 where
-  pub coords : p.coords ≡ flat (slots_of h)
-  pub parts : p.parts ≡ map mark_of (slots_of h)
+  pub coords : p.slots.coords ≡ flat (slots_of h)
+  pub parts : p.slots.marks ≡ map mark_of (slots_of h)
   pub count : Clashes (slots_of h) p.count
   pub reach : p.reach ≡ h.reach
   pub journal : p.journal ≡ journal_of 32 h.past h.reach

@@ -5,26 +5,28 @@ ghost use Rattle.slots.specs.Changes.{place, lift, shift};
 ghost use Rattle.plate.specs.Histories.{run, change, undo};
 ghost use Rattle.plate.specs.Plates.{Stands, Promise};
 
-use checks::{Checked, Refusal};
+use checks::Refusal;
 use keeping::{Plate, blank_entry, changed, popped, restored, slid};
-use reasons::{lift_checked, place_checked, shift_checked, undo_checked};
+use reasons::{lift_checked, place_checked, shift_checked, thrice, undo_checked};
+use slots::Slots;
 
 // The plate after a call, and what the call found: nothing to refuse, or why it refused.
 #[derive(Clone, Copy)]
 pub struct PlateAnswer {
     pub plate: Plate,
-    pub told: Checked,
+    pub told: Result<(), Refusal>,
 }
 
 // An empty plate: nothing in any slot, nothing to undo.
 pub fn empty() -> Plate
     ensures { Stands (run []) result }
 {
-    let blank = blank_entry();
     Plate {
-        coords: [0i32; 576],
-        parts: [0u8; 64],
-        journal: [blank; 32],
+        slots: Slots {
+            coords: [0; 576],
+            marks: [0; 64],
+        },
+        journal: [blank_entry(); 32],
         reach: 0,
         count: 0,
     }
@@ -35,8 +37,8 @@ fn refusal(plate: Plate, why: Refusal) -> PlateAnswer
     ensures { (result.plate ≡ plate) × (told_check result.told ≡ told_refusal why) }
 {
     PlateAnswer {
-        plate: plate,
-        told: Checked::Refused(why),
+        plate,
+        told: Err(why),
     }
 }
 
@@ -44,12 +46,12 @@ fn refusal(plate: Plate, why: Refusal) -> PlateAnswer
 pub fn place(plate: Plate, slot: usize, part: usize, triangle: &[i32]) -> PlateAnswer
     ensures { Promise plate (change (place slot part triangle.now)) result }
 {
-    match place_checked(&plate.parts[..], slot, part, triangle) {
-        Checked::Refused(why) => refusal(plate, why),
-        Checked::Fine => PlateAnswer {
+    match place_checked(&plate.slots, slot, part, triangle) {
+        Ok(()) => PlateAnswer {
             plate: changed(plate, slot, (part + 1) as u8, triangle),
-            told: Checked::Fine,
+            told: Ok(()),
         },
+        Err(why) => refusal(plate, why),
     }
 }
 
@@ -57,15 +59,12 @@ pub fn place(plate: Plate, slot: usize, part: usize, triangle: &[i32]) -> PlateA
 pub fn lift(plate: Plate, slot: usize) -> PlateAnswer
     ensures { Promise plate (change (lift slot)) result }
 {
-    match lift_checked(&plate.parts[..], slot) {
-        Checked::Refused(why) => refusal(plate, why),
-        Checked::Fine => {
-            let nothing = [0i32; 9];
-            PlateAnswer {
-                plate: changed(plate, slot, 0, &nothing[..]),
-                told: Checked::Fine,
-            }
-        }
+    match lift_checked(&plate.slots, slot) {
+        Ok(()) => PlateAnswer {
+            plate: changed(plate, slot, 0, &[0; 9]),
+            told: Ok(()),
+        },
+        Err(why) => refusal(plate, why),
     }
 }
 
@@ -73,15 +72,12 @@ pub fn lift(plate: Plate, slot: usize) -> PlateAnswer
 pub fn shift(plate: Plate, part: usize, dx: i32, dy: i32, dz: i32) -> PlateAnswer
     ensures { Promise plate (change (shift part dx dy dz)) result }
 {
-    match shift_checked(&plate.coords[..], &plate.parts[..], part, dx, dy, dz) {
-        Checked::Refused(why) => refusal(plate, why),
-        Checked::Fine => {
-            let by = [dx, dy, dz, dx, dy, dz, dx, dy, dz];
-            PlateAnswer {
-                plate: slid(plate, (part + 1) as u8, by),
-                told: Checked::Fine,
-            }
-        }
+    match shift_checked(&plate.slots, part, dx, dy, dz) {
+        Ok(()) => PlateAnswer {
+            plate: slid(plate, (part + 1) as u8, thrice(dx, dy, dz)),
+            told: Ok(()),
+        },
+        Err(why) => refusal(plate, why),
     }
 }
 
@@ -90,23 +86,17 @@ pub fn undo(plate: Plate) -> PlateAnswer
     ensures { Promise plate undo result }
 {
     match undo_checked(plate.reach) {
-        Checked::Refused(why) => refusal(plate, why),
-        Checked::Fine => {
-            let coords = plate.coords;
-            let parts = plate.parts;
-            let old = plate.journal;
-            let latest = old[0];
+        Ok(()) => {
             let before = Plate {
-                coords: coords,
-                parts: parts,
-                journal: popped(old),
+                journal: popped(plate.journal),
                 reach: plate.reach - 1,
-                count: plate.count,
+                ..plate
             };
             PlateAnswer {
-                plate: restored(before, latest),
-                told: Checked::Fine,
+                plate: restored(before, plate.journal[0]),
+                told: Ok(()),
             }
         }
+        Err(why) => refusal(plate, why),
     }
 }

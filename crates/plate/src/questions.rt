@@ -1,20 +1,25 @@
 // The questions: count, reach and parts. They leave the plate as it is.
-ghost use Rattle.std.specs.Prelude.{◌≡◌, List, suc, ◌≤◌, length};
+ghost use Rattle.std.specs.Prelude.{◌≡◌, List, suc, ◌/◌, ◌≤◌, length};
+ghost use Rattle.shape.specs.TriangleLists.{triangles_in};
+ghost use Rattle.exact.specs.Sizes.{OnGrid};
+ghost use Rattle.checks.specs.Answers.{served, ◌then◌};
+ghost use Rattle.checks.specs.Told.{told_check};
 ghost use Rattle.predicate.specs.Told.{told_verdict};
-ghost use Rattle.checks.specs.Answers.{refused, served, ◌then◌};
 ghost use Rattle.slots.specs.Slots.{Slot};
+ghost use Rattle.slots.specs.Parts.{triangles_of};
 ghost use Rattle.slots.specs.Counting.{marks_strike};
-ghost use Rattle.slots.specs.Showing.{Sized, Shown};
-ghost use Rattle.reasons.specs.Rules.{shell_checks};
-ghost use Rattle.plate.specs.Deciding.{either_in};
+ghost use Rattle.slots.specs.Showing.{Shown};
+ghost use Rattle.reasons.specs.Rules.{shell_closed, shell_checks};
+ghost use Rattle.plate.specs.Deciding.{either_inside, either_in};
 ghost use Rattle.plate.specs.Plates.{CountPromise, present_answer, PartsPromise};
 
-use checks::{Refusal, all_on};
+use checks::{Reason, Refusal};
 use inside::corner_inside;
 use keeping::Plate;
-use predicate::VerdictAnswer;
+use predicate::Verdict;
+use reasons::{part_checked, present_checked};
 use shells::is_open;
-use slots::{gather_part, has_mark, marks_strike};
+use slots::{GridSlots, Slots};
 
 // How many pairs of slots clash. It is read, not counted.
 pub fn count(plate: Plate) -> u32
@@ -30,84 +35,64 @@ pub fn reach(plate: Plate) -> usize
     plate.reach
 }
 
-// A refusal of a part.
-fn no_part(number: u32, side: u32, part: usize) -> VerdictAnswer
-    ensures { told_verdict result ≡ refused number side part }
+// Refusal 16, of the triangles of a part.
+fn closed_checked(side: u32, part: usize, shell: &[i32]) -> Result<(), Refusal>
+    ensures { (S : List Slot) → triangles_in (length shell.now / 9) shell.now ≡ triangles_of part S → told_check result ≡ shell_closed side S part }
 {
-    VerdictAnswer::Refused(Refusal {
-        number: number,
-        side: side,
-        place: part,
-    })
+    if is_open(shell) {
+        return Err(Refusal::new(Reason::ShellOpen, side, part));
+    }
+    Ok(())
 }
 
-// A yes or a no as a verdict.
-fn verdict_of(clash: bool) -> VerdictAnswer
-    ensures { told_verdict result ≡ served clash }
+// Whether some corner of one shell is inside the other.
+fn either_inside(first: &[i32], second: &[i32]) -> bool
+    requires { OnGrid first.now × OnGrid second.now }
+    ensures { result ≡ either_inside (triangles_in (length first.now / 9) first.now) (triangles_in (length second.now / 9) second.now) }
 {
-    if clash {
-        return VerdictAnswer::Meeting;
-    }
-    VerdictAnswer::Apart
+    corner_inside(first, second) || corner_inside(second, first)
 }
 
 // The verdict on two parts whose skins don't meet: whether their shells are closed, and then their corners.
-fn shells_verdict(coords: &[i32], marks: &[u8], p: usize, q: usize) -> VerdictAnswer
-    requires { Sized coords.now marks.now × (p ≤ 15) × (q ≤ 15) }
-    ensures { (S : List Slot) → Shown S coords.now marks.now → told_verdict result ≡ (shell_checks S p q then served (either_in S p q)) }
+fn shells_verdict(slots: GridSlots<'_>, p: usize, q: usize) -> Result<Verdict, Refusal>
+    requires { (p ≤ 15) × (q ≤ 15) }
+    ensures { (S : List Slot) → Shown S slots.entry.slots.now.coords slots.entry.slots.now.marks → told_verdict result ≡ (shell_checks S p q then served (either_in S p q)) }
 {
-    let mut first = [0i32; 576];
-    let mut second = [0i32; 576];
-    let m = gather_part(coords, marks, (p + 1) as u8, &mut first[..]);
-    let n = gather_part(coords, marks, (q + 1) as u8, &mut second[..]);
-    if is_open(&first[..], m) {
-        return no_part(16, 0, p);
-    }
-    if is_open(&second[..], n) {
-        return no_part(16, 1, q);
-    }
-    if corner_inside(&first[..], m, &second[..], n) {
-        return VerdictAnswer::Meeting;
-    }
-    verdict_of(corner_inside(&second[..], n, &first[..], m))
+    let mut first = [0; 576];
+    let mut second = [0; 576];
+    let m = slots.gather_part((p + 1) as u8, &mut first);
+    let n = slots.gather_part((q + 1) as u8, &mut second);
+    let first = &first[..9 * m];
+    let second = &second[..9 * n];
+    closed_checked(0, p, first)?;
+    closed_checked(1, q, second)?;
+    Ok(Verdict::from(either_inside(first, second)))
 }
 
 // The verdict on two parts that are present. On no plate that calls made is a coordinate off the grid.
-fn present_verdict(coords: &[i32], marks: &[u8], p: usize, q: usize) -> VerdictAnswer
-    requires { (length coords.now ≡ 576) × (length marks.now ≡ 64) × (p ≤ 15) × (q ≤ 15) }
-    ensures { (S : List Slot) → Shown S coords.now marks.now → told_verdict result ≡ present_answer S p q (marks_strike (suc p) (suc q) S) (either_in S p q) }
+fn present_verdict(slots: &Slots, p: usize, q: usize) -> Result<Verdict, Refusal>
+    requires { (p ≤ 15) × (q ≤ 15) }
+    ensures { (S : List Slot) → Shown S slots.now.coords slots.now.marks → told_verdict result ≡ present_answer S p q (marks_strike (suc p) (suc q) S) (either_in S p q) }
 {
     if p == q {
-        return VerdictAnswer::Apart;
+        return Ok(Verdict::Apart);
     }
-    if marks_strike(coords, marks, (p + 1) as u8, (q + 1) as u8) {
-        return VerdictAnswer::Meeting;
+    if slots.marks_strike((p + 1) as u8, (q + 1) as u8) {
+        return Ok(Verdict::Meeting);
     }
-    if all_on(coords) {
-        return shells_verdict(coords, marks, p, q);
+    match slots.on_grid() {
+        Some(on) => shells_verdict(on, p, q),
+        None => Ok(Verdict::Apart),
     }
-    VerdictAnswer::Apart
 }
 
 // Whether two parts clash.
-pub fn parts(plate: Plate, p: usize, q: usize) -> VerdictAnswer
+pub fn parts(plate: Plate, p: usize, q: usize) -> Result<Verdict, Refusal>
     ensures { PartsPromise plate p q (told_verdict result) }
 {
-    if 15 < p {
-        return no_part(7, 0, p);
-    }
-    if 15 < q {
-        return no_part(7, 1, q);
-    }
-    let coords = plate.coords;
-    let marks = plate.parts;
-    let first = (p + 1) as u8;
-    let second = (q + 1) as u8;
-    if !has_mark(&marks[..], first) {
-        return no_part(10, 0, p);
-    }
-    if !has_mark(&marks[..], second) {
-        return no_part(10, 1, q);
-    }
-    present_verdict(&coords[..], &marks[..], p, q)
+    part_checked(0, p)?;
+    part_checked(1, q)?;
+    present_checked(0, &plate.slots, p)?;
+    present_checked(1, &plate.slots, q)?;
+    present_verdict(&plate.slots, p, q)
 }

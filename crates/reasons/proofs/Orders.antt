@@ -1,27 +1,20 @@
 -- Which reason comes first, of each change. Assumes nothing.
 use mathlib.Core.Path.{◌≡◌, refl, ap, ◌∙◌}
 use mathlib.Core.Bool.{Bool, true, false, cond}
-use mathlib.Core.List.{List, map}
+use mathlib.Core.List.{List}
 use Prim.Native.Nat.{ℕ, ◌<◌, ◌≤◌}
 use native.Mathlib.Omega.{arith}
 use borrow.Author.Tests.{lt-ltb, le-ltb}
 use lib.IntN.{ℤ}
-use lib.ListN.{get_or, length, get_or-map}
+use lib.ListN.{get_or, length}
 use Rattle.checks.specs.Answers.{refused, Check, fine, ◌then◌}
-use Rattle.checks.proofs.AnswerLaws.{never_fine}
 use Rattle.slots.specs.Slots.{Slot, free, held, is_free, is_of}
 use Rattle.slots.specs.Changes.{place, lift, shift, thrice}
 use Rattle.shape.specs.Lists.{some, lowest}
 use Rattle.slots.specs.Leaving.{leaves}
 use Rattle.slots.specs.Arrays.{mark_of}
-use Rattle.slots.specs.Showing.{Shown}
-use Rattle.reasons.specs.Findings.{PlaceFound, LiftFound, ShiftFound}
 use Rattle.reasons.specs.Rules.{slot_free, change_checks}
 use Rattle.reasons.proofs.Placing.{placing, place_order}
-
--- The mark of a slot, as an array has it that shows slots.
-pub marked : {marks : List ℕ} (S : List Slot) → marks ≡ map mark_of S → (i : ℕ) → get_or marks i 0 ≡ mark_of (get_or S i free)
-marked S e i = ap (λ (l : List ℕ). get_or l i 0) e ∙ get_or-map mark_of S i free
 
 -- ---- place
 free_yes : (x : Slot) → mark_of x ≡ 0 → is_free x ≡ true
@@ -76,22 +69,3 @@ module _ (S : List Slot) (q : ℕ) (dx dy dz : ℤ) where
       change_checks S (shift q dx dy dz) ≡ fine
   unfolding change_checks
   shift_fine a b c = rw (le-ltb 15 q a, b, le-ltb (lowest (leaves q (thrice dx dy dz)) S) (length S) c)
-
--- ---- a refusal promises nothing of the numbers
-module _ {found : Check} {n s k : ℕ} (no : found ≡ refused n s k) where
-  pub place_refused : {marks : List ℕ} {slot part : ℕ} {numbers : List ℤ} →
-      ((S : List Slot) → marks ≡ map mark_of S → found ≡ change_checks S (place slot part numbers)) → PlaceFound marks slot part numbers found
-  place_refused rule = record {
-    rule = rule;
-    slot_is_within = λ e. absurd (never_fine e no);
-    part_is_within = λ e. absurd (never_fine e no);
-    ready = λ e. absurd (never_fine e no);
-  }
-
-  pub lift_refused : {marks : List ℕ} {slot : ℕ} → ((S : List Slot) → marks ≡ map mark_of S → found ≡ change_checks S (lift slot)) →
-      LiftFound marks slot found
-  lift_refused rule = record { rule = rule; slot_is_within = λ e. absurd (never_fine e no) }
-
-  pub shift_refused : {coords : List ℤ} {marks : List ℕ} {part : ℕ} {dx dy dz : ℤ} →
-      ((S : List Slot) → Shown S coords marks → found ≡ change_checks S (shift part dx dy dz)) → ShiftFound coords marks part dx dy dz found
-  shift_refused rule = record { rule = rule; part_is_within = λ e. absurd (never_fine e no) }

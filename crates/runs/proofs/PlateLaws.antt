@@ -5,7 +5,6 @@ use mathlib.Core.List.{List, [], ◌∷◌}
 use Prim.Native.Nat.{ℕ, ◌+◌, ◌-◌, ◌*◌, ◌<◌, ◌≤◌}
 use native.Mathlib.Numerals.{add-one}
 use native.Mathlib.Omega.{arith}
-use borrow.Author.Tests.{ne_eqb}
 use borrow.Rule.Slice.PartMut.{put_mid, same_len_mid, drop_put}
 use lib.IntN.{ℤ}
 use lib.ListN.{length, get_or, take, drop}
@@ -20,21 +19,7 @@ use Rattle.keeping.specs.declared.plates.Plate.{Plate}
 use Rattle.telling.specs.Numbers.{verdict_code, without_value, four_numbers, listed}
 use Rattle.telling.specs.declared.numbers.Numbers.{Numbers}
 use Rattle.runs.specs.declared.calls.CallAnswer.{CallAnswer}
-use Rattle.runs.specs.PlateRuns.{
-  parts,
-  unknown,
-  ask_of,
-  ask_at,
-  calls_before,
-  history_before,
-  Six,
-  AskAnswered,
-  room_for,
-  PlateRun,
-  six_of,
-  CallKept,
-  ChangeKept,
-}
+use Rattle.runs.specs.PlateRuns.{parts, unknown, ask_at, calls_before, history_before, Six, AskAnswered, room_for, PlateRun, six_of, CallKept, ChangeKept}
 
 -- ---- one call
 -- Six numbers, by the four of the answer and by the plate after it.
@@ -82,17 +67,6 @@ parts_kept plate told numbers kept e = record {
   stands = λ before st. st;
 }
 
--- ---- kinds that there are not
-pub no_kind : (kind first second : ℕ) (numbers : List ℤ) → 5 < kind → ask_of kind first second numbers ≡ unknown
-no_kind kind first second numbers h =
-    rw (
-      ne_eqb kind 1 (λ e. omega arith),
-      ne_eqb kind 2 (λ e. omega arith),
-      ne_eqb kind 3 (λ e. omega arith),
-      ne_eqb kind 4 (λ e. omega arith),
-      ne_eqb kind 5 (λ e. omega arith),
-    )
-
 -- ---- the run so far
 -- The first k calls are done, the plate stands for their history, and what lies behind their numbers is as it was.
 pub record Begun (calls : List ℕ) (numbers : List ℤ) (before : List ℕ) (k : ℕ) (plate : Plate) (answers : List ℕ) : Type 0 where
@@ -138,31 +112,6 @@ one_more {calls} {numbers} {before} {k} {answers} {six} r b room kept e =
   where
     behind : (l : List ℕ) → drop (6 * k + 6) l ≡ drop 6 (drop (6 * k) l)
     behind l = sym (drop-drop 6 (6 * k) l)
-
--- A call that there is room for: where its three numbers lie, and where its nine and its six start and end.
-pub record Places (calls : List ℕ) (numbers : List ℤ) (answers : List ℕ) (k : ℕ) : Type 0 where
-  pub kind : 3 * k < length calls
-  pub first : 3 * k + 1 < length calls
-  pub second : 3 * k + 2 < length calls
-  pub nine : 9 * k < length numbers
-  pub nine_end : 9 * k + 9 ≤ length numbers
-  pub six : 6 * k < length answers
-  pub six_end : 6 * k + 6 ≤ length answers
-
-pub places : (calls : List ℕ) (numbers : List ℤ) (answers : List ℕ) (k : ℕ) → k < room_for calls numbers answers → Places calls numbers answers k
-places calls numbers answers k h =
-    let c : 3 * k + 3 ≤ length calls = omega arith in
-    let n : 9 * k + 9 ≤ length numbers = omega arith in
-    let s : 6 * k + 6 ≤ length answers = omega arith in
-    record {
-      kind = omega (arith, c);
-      first = omega (arith, c);
-      second = omega (arith, c);
-      nine = omega (arith, n);
-      nine_end = n;
-      six = omega (arith, s);
-      six_end = s;
-    }
 
 -- The end of the run: no room is left, or an unknown kind.
 pub ended : {calls : List ℕ} {numbers : List ℤ} {before answers : List ℕ} {plate : Plate} {k : ℕ} →

@@ -1,6 +1,6 @@
 -- What a run of calls promises. It starts from the empty plate, and is given as three lists of numbers: call k takes three numbers of
 -- `calls` from 3 * k on (its kind, and two numbers more) and nine of `numbers` from 9 * k on, and six are written into `answers` from 6 * k on.
-use Rattle.std.specs.Prelude.{◌≡◌, Bool, cond, List, [], ◌∷◌, ℕ, zero, suc, ◌+◌, ◌*◌, ◌/◌, ◌≤◌, ◌<◌, min, eqb, ℤ, length, get_or, take, drop}
+use Rattle.std.specs.Prelude.{◌≡◌, Bool, cond, List, [], ◌∷◌, ℕ, zero, suc, ◌+◌, ◌*◌, ◌/◌, ◌≤◌, ◌<◌, min, eqb, ℤ, length, get_or, take, drop, Option, Some, None}
 use Rattle.shape.specs.Points.{coord}
 use Rattle.checks.specs.Answers.{Answer, number_of, side_of, place_of, with_served}
 use Rattle.slots.specs.Slots.{Clashes}
@@ -12,7 +12,8 @@ use Rattle.keeping.specs.declared.plates.Plate.{Plate}
 use Rattle.telling.specs.Numbers.{verdict_code, without_value, value_of}
 use Rattle.telling.specs.declared.numbers.Numbers.{Numbers}
 use Rattle.runs.specs.declared.calls.CallAnswer.{CallAnswer}
-use Rattle.runs.specs.declared.calls.Three.{Three}
+use Rattle.runs.specs.declared.calls.Asked.{Asked}
+use Rattle.runs.specs.declared.calls.Asked.TheVariants.{Place, Lift, Shift, Undo, Parts}
 
 -- ---- what is asked
 -- A call that changes the plate, the question whether two parts clash, or a kind that there is not.
@@ -80,11 +81,17 @@ pub record PlateRun (calls : List ℕ) (numbers : List ℤ) (before : List ℕ) 
   pub rest : drop (6 * result) after ≡ drop (6 * result) before
 
 -- ---- for the functions inside
--- The three numbers of call k, as the code reads them.
-pub record ThreeAt (calls : List ℕ) (k : ℕ) (r : Three) : Type 0 where
-  pub kind : r.kind ≡ get_or calls (3 * k) 0
-  pub first : r.first ≡ get_or calls (3 * k + 1) 0
-  pub second : r.second ≡ get_or calls (3 * k + 2) 0
+-- What a call asks for, as the code has decoded it, with the nine numbers of the call; and the same of a kind that may not be there.
+abbrev pub ask_by : Asked → List ℤ → Ask
+ask_by (Place slot part) numbers = call (change (place slot part numbers))
+ask_by (Lift slot) numbers = call (change (lift slot))
+ask_by (Shift part) numbers = call (change (shift part (coord 0 numbers) (coord 1 numbers) (coord 2 numbers)))
+ask_by Undo numbers = call undo
+ask_by (Parts p q) numbers = parts p q
+
+abbrev pub decoded_as : Option Asked → List ℤ → Ask
+decoded_as None numbers = unknown
+decoded_as (Some asked) numbers = ask_by asked numbers
 
 -- The six numbers as the code writes them: the four of the answer, with the count and the reach before the value.
 abbrev pub six_of : Numbers → (count reach : ℕ) → List ℕ

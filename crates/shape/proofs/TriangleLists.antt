@@ -1,83 +1,30 @@
--- The triangles at the front of a list of numbers, one after the other: a search among them, how many of them lie ahead of a point, and where their
--- numbers stand. Assumes nothing.
+-- The triangles at the front of a list of numbers, one after the other: a search among them, where their numbers stand, and the same nine numbers at a
+-- time. Assumes nothing.
 use mathlib.Core.Path.{◌≡◌, refl, sym, ap, ◌∙◌}
-use mathlib.Core.Bool.{Bool, true, false, cond}
-use mathlib.Core.List.{List, [], ◌∷◌, ◌++◌}
-use Prim.Native.Nat.{ℕ, zero, suc, ◌+◌, ◌*◌, ◌<◌}
-use native.Mathlib.Decide.{ℕ_discrete}
+use mathlib.Core.Bool.{Bool, true, false, cond, ◌||◌}
+use mathlib.Core.List.{List, [], ◌∷◌, ◌++◌, map}
+use Prim.Native.Nat.{ℕ, zero, suc, ◌+◌, ◌-◌, ◌*◌, ◌/◌, ◌<◌, ◌≤◌}
 use native.Mathlib.Numerals.{add-one}
 use native.Mathlib.Omega.{arith}
 use lib.IntN.{ℤ, pos}
-use lib.ListN.{get_or, take, drop}
+use lib.ListN.{length, get_or, take, drop}
 use lib.Seq.{get_or-take, get_or-drop}
-use Rattle.shape.specs.Points.{Point, Shape, point_at, points_at}
+use Rattle.shape.specs.Points.{points_at}
 use Rattle.shape.specs.Lists.{some}
-use Rattle.shape.specs.InsideTest.{is_ahead, odd_with, odd_ahead}
-use Rattle.shape.specs.TriangleLists.{triangle_at, triangles_in}
-use Rattle.shape.proofs.ListLaws.{some_append}
+use Rattle.std.specs.List.{list_any}
+use Rattle.std.specs.Simd.{first_chunks}
+use Rattle.std.proofs.lemmas.List.{map-append, drop-drop, drop-take, take-take, length-take-le}
+use Rattle.shape.specs.TriangleLists.{triangle_at, triangles_in, triangles_of}
 
--- ---- a search: whether one of the first n passes a test
-module _ (test : Shape → Bool) (numbers : List ℤ) where
-  some_next : (n : ℕ) → some test (triangles_in (suc n) numbers) ≡ cond (some test (triangles_in n numbers)) true (test (triangle_at n numbers))
-  unfolding triangles_in
-  some_next n =
-      some_append test (triangles_in n numbers) (triangle_at n numbers ∷ [])
-      ∙ ap (λ (v : Bool). cond (some test (triangles_in n numbers)) true v) (itself (test (triangle_at n numbers)))
-    where
-      itself : (b : Bool) → cond b true false ≡ b
-      itself true = refl
-      itself false = refl
-
-  pub none_yet : some test (triangles_in 0 numbers) ≡ false
-  unfolding triangles_in
-  none_yet = refl
-
-  pub none_more : (i : ℕ) → some test (triangles_in i numbers) ≡ false → test (triangle_at i numbers) ≡ false →
-      some test (triangles_in (i + 1) numbers) ≡ false
-  none_more i e f =
-      ap (λ (n : ℕ). some test (triangles_in n numbers)) (add-one i) ∙ some_next i ∙ (λ k. cond (e k) true (f k))
-
-  pub some_here : (i n : ℕ) → i < n → test (triangle_at i numbers) ≡ true → some test (triangles_in n numbers) ≡ true
-  some_here i zero h e = absurd (omega arith)
-  some_here i (suc n) h e = some_next n ∙ by_place (ℕ_discrete i n) (λ l. some_here i n l e)
-    where
-      either : (b : Bool) → cond b true true ≡ true
-      either true = refl
-      either false = refl
-
-      by_place : Dec (i ≡ n) → (i < n → some test (triangles_in n numbers) ≡ true) →
-          cond (some test (triangles_in n numbers)) true (test (triangle_at n numbers)) ≡ true
-      by_place (yes here) later =
-          ap (λ (v : Bool). cond (some test (triangles_in n numbers)) true v) (ap (λ (k : ℕ). test (triangle_at k numbers)) (sym here) ∙ e)
-          ∙ either (some test (triangles_in n numbers))
-      by_place (no before) later =
-          ap (λ (v : Bool). cond v true (test (triangle_at n numbers))) (later (omega (arith, before)))
-
--- ---- ahead of a point
-module _ (p : Point) where
-  odd_append : (Ps : List Shape) (P : Shape) → odd_ahead p (Ps ++ (P ∷ [])) ≡ odd_with (is_ahead p P) (odd_ahead p Ps)
-  odd_append [] P = refl
-  odd_append (Q ∷ Ps) P =
-      ap (odd_with (is_ahead p Q)) (odd_append Ps P) ∙ trade (is_ahead p Q) (is_ahead p P) (odd_ahead p Ps)
-    where
-      trade : (a b v : Bool) → odd_with a (odd_with b v) ≡ odd_with b (odd_with a v)
-      trade true true v = refl
-      trade true false v = refl
-      trade false true v = refl
-      trade false false v = refl
-
-  pub odd_none : (numbers : List ℤ) → false ≡ odd_ahead p (triangles_in 0 numbers)
-  unfolding triangles_in
-  odd_none numbers = refl
-
-  odd_next : (numbers : List ℤ) (i : ℕ) → odd_ahead p (triangles_in (suc i) numbers) ≡ odd_with (is_ahead p (triangle_at i numbers)) (odd_ahead p (triangles_in i numbers))
-  unfolding triangles_in
-  odd_next numbers i = odd_append (triangles_in i numbers) (triangle_at i numbers)
-
-  pub odd_more : (numbers : List ℤ) (i : ℕ) {odd more new : Bool} → odd ≡ odd_ahead p (triangles_in i numbers) →
-      more ≡ is_ahead p (triangle_at i numbers) → new ≡ odd_with more odd → new ≡ odd_ahead p (triangles_in (i + 1) numbers)
-  odd_more numbers i e f g =
-      g ∙ (λ k. odd_with (f k) (e k)) ∙ sym (odd_next numbers i) ∙ ap (λ (n : ℕ). odd_ahead p (triangles_in n numbers)) (sym (add-one i))
+-- ---- a search: what an iterator's `any` answers, where each element stands for something that is tested
+pub any_some : {A B : Type 0} (stands : A → B) (test : B → Bool) (l : List A) → list_any (λ a. test (stands a)) l ≡ some test (map stands l)
+any_some stands test [] = refl
+any_some stands test (a ∷ l) = by_head (test (stands a)) (any_some stands test l)
+  where
+    by_head : (b : Bool) → list_any (λ a. test (stands a)) l ≡ some test (map stands l) →
+        b || list_any (λ a. test (stands a)) l ≡ cond b true (some test (map stands l))
+    by_head true e = refl
+    by_head false e = e
 
 -- ---- a triangle is read where it stands
 number_at : (numbers : List ℤ) (i k at : ℕ) → k < 9 → 9 * i + k ≡ at → get_or (take 9 (drop (9 * i) numbers)) k (pos 0) ≡ get_or numbers at (pos 0)
@@ -100,10 +47,6 @@ triangle_at_law numbers i =
     let k = n 8 (suc (suc (p + 3 + 3))) (omega arith) (omega arith) in
     λ x. (a x ∷ b x ∷ c x ∷ []) ∷ (d x ∷ e x ∷ f x ∷ []) ∷ (g x ∷ h x ∷ k x ∷ []) ∷ []
 
--- Its third corner, as code names it.
-pub third_corner : (i : ℕ) (numbers : List ℤ) → point_at 3 (9 * i + 6) numbers ≡ point_at 3 (9 * i + 3 + 3) numbers
-third_corner i numbers = ap (λ (p : ℕ). point_at 3 p numbers) {x = 9 * i + 6} {y = 9 * i + 3 + 3} (omega arith)
-
 -- Lists with the same nine numbers at each of the first n triangles have these in common; and one triangle more at the end.
 pub triangles_same : (n : ℕ) (l m : List ℤ) → ((j : ℕ) → j < n → take 9 (drop (9 * j) l) ≡ take 9 (drop (9 * j) m)) → triangles_in n l ≡ triangles_in n m
 unfolding triangles_in
@@ -119,3 +62,35 @@ unfolding triangles_in
 triangles_more n l m earlier new =
     let last = sym (triangle_at_law m n) ∙ ap (points_at 3 3 0) new in
     ap (λ (k : ℕ). triangles_in k m) (add-one n) ∙ (λ i. triangles_same n m l earlier i ++ (last i ∷ []))
+
+-- The first n lists of nine numbers hold the first n triangles.
+chunks_next : (n : ℕ) (numbers : List ℤ) → first_chunks 9 (suc n) numbers ≡ first_chunks 9 n numbers ++ (take 9 (drop (9 * n) numbers) ∷ [])
+chunks_next zero numbers = refl
+chunks_next (suc n) numbers =
+    ap (λ (l : List (List ℤ)). take 9 numbers ∷ l) (chunks_next n (drop 9 numbers))
+    ∙ ap (λ (l : List ℤ). first_chunks 9 (suc n) numbers ++ (take 9 l ∷ [])) (drop-drop (9 * n) 9 numbers ∙ ap (λ (k : ℕ). drop k numbers) (omega arith))
+
+pub chunks_hold : (n : ℕ) (numbers : List ℤ) → triangles_of (first_chunks 9 n numbers) ≡ triangles_in n numbers
+unfolding triangles_in
+chunks_hold zero numbers = refl
+chunks_hold (suc n) numbers =
+    ap triangles_of (chunks_next n numbers)
+    ∙ map-append (points_at 3 3 0) (first_chunks 9 n numbers) (take 9 (drop (9 * n) numbers) ∷ [])
+    ∙ (λ i. chunks_hold n numbers i ++ (triangle_at_law numbers n i ∷ []))
+
+-- A part from the front on that has the numbers of n triangles has those n, and no other.
+pub front_triangles : (n : ℕ) (numbers : List ℤ) → 9 * n ≤ length numbers → triangles_in (length (take (9 * n) numbers) / 9) (take (9 * n) numbers) ≡ triangles_in n numbers
+front_triangles n numbers h =
+    ap (λ (k : ℕ). triangles_in k (take (9 * n) numbers)) so_many
+    ∙ triangles_same n (take (9 * n) numbers) numbers (λ j k. here j k)
+  where
+    so_many : length (take (9 * n) numbers) / 9 ≡ n
+    so_many = rw (length-take-le (9 * n) numbers h) (omega arith)
+
+    here : (j : ℕ) → j < n → take 9 (drop (9 * j) (take (9 * n) numbers)) ≡ take 9 (drop (9 * j) numbers)
+    here j k =
+        let more : 9 * j + 9 * (n - j) ≡ 9 * n = omega arith in
+        let enough : 9 ≤ 9 * (n - j) = omega arith in
+        ap (λ (m : ℕ). take 9 (drop (9 * j) (take m numbers))) (sym more)
+        ∙ ap (take 9) (drop-take (9 * j) (9 * (n - j)) numbers)
+        ∙ take-take 9 (9 * (n - j)) (drop (9 * j) numbers) enough

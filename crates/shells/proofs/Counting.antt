@@ -1,31 +1,37 @@
--- How often an edge occurs: three tests counted, and one triangle more at the end. Assumes nothing.
-use mathlib.Core.Path.{◌≡◌, refl, sym, ap, ◌∙◌}
-use mathlib.Core.Bool.{Bool, true, false, cond}
-use mathlib.Core.List.{List, [], ◌∷◌, ◌++◌}
-use Prim.Native.Nat.{ℕ, suc, ◌+◌}
-use native.Mathlib.Numerals.{add-one}
-use native.Mathlib.Omega.{arith}
-use lib.IntN.{ℤ}
-use mir.Val.{bool_byte}
+-- How often an edge occurs: among the edges that the code compares, in one triangle, and in all. Assumes nothing.
+use Rattle.std.proofs.Common.{◌≡◌, refl, sym, ap, ℕ, suc, ◌+◌, ◌*◌, ◌≤◌, Bool, true, false, cond, List, [], ◌∷◌, ◌++◌, map, filter, length, ℤ, arith}
+use Rattle.std.specs.List.{sum_by}
+use Rattle.std.proofs.lemmas.List.Recursion.{is_sum_by}
 use Rattle.shape.specs.Lists.{held_by}
 use Rattle.shape.specs.Shells.{Edge, same_edge, edges_of, occurs}
-use Rattle.shape.specs.TriangleLists.{triangle_at, triangles_in}
-use Rattle.shape.proofs.ListLaws.{held_append}
+use Rattle.shape.specs.TriangleLists.{triangle_of, triangles_of}
+use Rattle.shells.specs.declared.closing.Edge.{Edge as EdgeHeld}
+use Rattle.shells.specs.Opening.{directed}
+use Rattle.shells.proofs.Sameness.{edge_eq, edges_same}
 
--- Three tests counted, as `occurs` counts them.
-abbrev pub three : Bool → Bool → Bool → ℕ
-three x y z = cond x (suc (cond y (suc (cond z 1 0)) (cond z 1 0))) (cond y (suc (cond z 1 0)) (cond z 1 0))
+-- Those that are the same, counted.
+pub same_counted : (e : EdgeHeld) (fs : List EdgeHeld) → length (filter (edge_eq e) fs) ≡ occurs (directed e) (map directed fs)
+same_counted e [] = refl
+same_counted e (f ∷ fs) = rw (edges_same e f) (by_head (same_edge (directed e) (directed f)) (same_counted e fs))
+  where
+    by_head : (b : Bool) → length (filter (edge_eq e) fs) ≡ occurs (directed e) (map directed fs) →
+        length (cond b (f ∷ filter (edge_eq e) fs) (filter (edge_eq e) fs)) ≡ cond b (suc (occurs (directed e) (map directed fs))) (occurs (directed e) (map directed fs))
+    by_head true h = ap suc h
+    by_head false h = h
 
-pub three_times : (x y z : Bool) → bool_byte x + bool_byte y + bool_byte z ≡ three x y z
-three_times true true true = refl
-three_times true true false = refl
-three_times true false true = refl
-three_times true false false = refl
-three_times false true true = refl
-three_times false true false = refl
-three_times false false true = refl
-three_times false false false = refl
+-- How often in one triangle: at most three times.
+abbrev pub times_there : Edge → List ℤ → ℕ
+times_there e t = occurs e (edges_of (triangle_of t))
 
+occurs_most : (e : Edge) (fs : List Edge) → occurs e fs ≤ length fs
+occurs_most e [] = omega arith
+occurs_most e (f ∷ fs) = by_head (same_edge e f) (occurs_most e fs)
+  where
+    by_head : (b : Bool) → occurs e fs ≤ length fs → cond b (suc (occurs e fs)) (occurs e fs) ≤ suc (length fs)
+    by_head true h = omega arith
+    by_head false h = omega arith
+
+-- And in all.
 occurs_append : (e : Edge) (x y : List Edge) → occurs e (x ++ y) ≡ occurs e x + occurs e y
 occurs_append e [] y = omega arith
 occurs_append e (f ∷ x) y = by_head (same_edge e f) (occurs_append e x y)
@@ -35,19 +41,21 @@ occurs_append e (f ∷ x) y = by_head (same_edge e f) (occurs_append e x y)
     by_head true h = omega (arith, h)
     by_head false h = h
 
--- None in no triangle; and one triangle more.
-pub times_none : (e : Edge) (numbers : List ℤ) → 0 ≡ occurs e (held_by edges_of (triangles_in 0 numbers))
-unfolding triangles_in
-times_none e numbers = refl
+abbrev in_all : Edge → List (List ℤ) → ℕ
+in_all e ts = occurs e (held_by edges_of (triangles_of ts))
 
-times_next : (e : Edge) (numbers : List ℤ) (i : ℕ) →
-    occurs e (held_by edges_of (triangles_in (suc i) numbers)) ≡ occurs e (held_by edges_of (triangles_in i numbers)) + occurs e (edges_of (triangle_at i numbers))
-unfolding triangles_in
-times_next e numbers i =
-    ap (occurs e) (held_append edges_of (triangles_in i numbers) (triangle_at i numbers ∷ []))
-    ∙ occurs_append e (held_by edges_of (triangles_in i numbers)) (edges_of (triangle_at i numbers) ++ [])
+one_more : (e : Edge) (t : List ℤ) (ts : List (List ℤ)) → in_all e (t ∷ ts) ≡ times_there e t + in_all e ts
+one_more e t ts = occurs_append e (edges_of (triangle_of t)) (held_by edges_of (triangles_of ts))
 
-pub times_more : (e : Edge) (numbers : List ℤ) (i : ℕ) {n m : ℕ} → n ≡ occurs e (held_by edges_of (triangles_in i numbers)) →
-    m ≡ occurs e (edges_of (triangle_at i numbers)) → n + m ≡ occurs e (held_by edges_of (triangles_in (i + 1) numbers))
-times_more e numbers i f g =
-    (λ k. f k + g k) ∙ sym (times_next e numbers i) ∙ ap (λ (k : ℕ). occurs e (held_by edges_of (triangles_in k numbers))) (sym (add-one i))
+pub times_in_all : (e : Edge) (ts : List (List ℤ)) → sum_by (times_there e) ts ≡ occurs e (held_by edges_of (triangles_of ts))
+times_in_all e ts = sym (is_sum_by (in_all e) (times_there e) refl (one_more e) ts)
+
+all_most : (e : Edge) (ts : List (List ℤ)) → in_all e ts ≤ 3 * length ts
+all_most e [] = omega arith
+all_most e (t ∷ ts) = by_numbers (length ts) (occurs_most e (edges_of (triangle_of t))) (all_most e ts) (one_more e t ts)
+  where
+    by_numbers : {m n k : ℕ} (l : ℕ) → m ≤ 3 → n ≤ 3 * l → k ≡ m + n → k ≤ 3 * suc l
+    by_numbers l x y z = omega arith
+
+pub times_most : (e : Edge) (ts : List (List ℤ)) → sum_by (times_there e) ts ≤ 3 * length ts
+times_most e ts = rw (times_in_all e ts) (all_most e ts)

@@ -1,25 +1,47 @@
--- Numbers compared, as the machine does it: on the words that hold them. Assumes nothing.
-use mathlib.Core.Path.{◌≡◌, sym, ap, ◌∙◌}
-use borrow.Author.Tests.{eqb-true, eqb-false}
-use lib.Dec.{eqb}
-use lib.IntN.{ℤ, ◌-ℤ◌, +ℤ_invr}
-use mir.Syntax.{w32}
-use mir.Val.{SFits, to_z, of_z}
-use mir.Facts.{to_z-of_z}
+-- Edges compared as the derived `==` does it, number by number. Assumes nothing.
+use Rattle.std.proofs.Common.{◌≡◌, refl, sym, ap, ◌∙◌, Bool, true, false, ◌&&◌, cond, ℤ, ◌-ℤ◌, int_eq, Decides}
+use Rattle.std.proofs.lemmas.Bool.Decides.{same_from_decides, Decides-int_eq}
+use lib.IntN.{+ℤ_invr}
 use Rattle.algebra.proofs.Order.{eq_of_sub}
 use Rattle.shape.specs.Flat.{is_zero}
-use Rattle.shape.specs.Verdicts.{Says}
+use Rattle.shape.specs.Shells.{same_point, same_edge}
 use Rattle.shape.proofs.FlatLaws.{zero_says}
-use Rattle.shape.proofs.VerdictLaws.{says_same, says_fixed}
+use Rattle.shells.specs.declared.closing.Corner.{Corner}
+use Rattle.shells.specs.declared.closing.Edge.{Edge}
+use Rattle.shells.specs.Opening.{corner, directed}
 
-module _ (x y : ℤ) (x_Fits : SFits w32 x) (y_fits : SFits w32 y) where
-  words_say : Says (eqb (of_z w32 x) (of_z w32 y)) (x ≡ y)
-  words_say = record {
-    yes = λ e. sym (to_z-of_z x_Fits) ∙ ap (to_z w32) (eqb-true (of_z w32 x) (of_z w32 y) e) ∙ to_z-of_z y_fits;
-    no = λ e same. eqb-false (of_z w32 x) (of_z w32 y) e (ap (of_z w32) same);
-  }
+abbrev pub corner_eq : Corner → Corner → Bool
+corner_eq a b = int_eq a.x b.x && (int_eq a.y b.y && int_eq a.z b.z)
 
-  pub same_words : eqb (of_z w32 x) (of_z w32 y) ≡ is_zero (y -ℤ x)
-  same_words =
-      says_fixed words_say
-      (says_same (eq_of_sub x y, λ e. ap (λ (z : ℤ). z -ℤ x) (sym e) ∙ +ℤ_invr x) (zero_says (y -ℤ x)))
+abbrev pub edge_eq : Edge → Edge → Bool
+edge_eq e f = corner_eq e.from f.from && corner_eq e.to f.to
+
+numbers_same : (x y : ℤ) → int_eq x y ≡ is_zero (y -ℤ x)
+numbers_same x y = same_from_decides _ _ (Decides-int_eq x y) by_difference
+  where
+    by_difference : Decides (is_zero (y -ℤ x)) (x ≡ y)
+    by_difference =
+        (λ e. eq_of_sub x y ((zero_says (y -ℤ x)).yes e), λ e. ap (λ (z : ℤ). is_zero (z -ℤ x)) (sym e) ∙ ap is_zero (+ℤ_invr x))
+
+corners_same : (a b : Corner) → corner_eq a b ≡ same_point (corner a) (corner b)
+corners_same a b =
+    (λ k. numbers_same a.x b.x k && (numbers_same a.y b.y k && numbers_same a.z b.z k))
+    ∙ last_first (is_zero (b.x -ℤ a.x)) (is_zero (b.y -ℤ a.y)) (is_zero (b.z -ℤ a.z))
+  where
+    last_first : (x y z : Bool) → x && (y && z) ≡ cond z (cond y (cond x true false) false) false
+    last_first true true true = refl
+    last_first true true false = refl
+    last_first true false true = refl
+    last_first true false false = refl
+    last_first false true true = refl
+    last_first false true false = refl
+    last_first false false true = refl
+    last_first false false false = refl
+
+pub edges_same : (e f : Edge) → edge_eq e f ≡ same_edge (directed e) (directed f)
+edges_same e f =
+    (λ k. corners_same e.from f.from k && corners_same e.to f.to k) ∙ both (same_point (corner e.from) (corner f.from)) (same_point (corner e.to) (corner f.to))
+  where
+    both : (x y : Bool) → x && y ≡ cond x y false
+    both true y = refl
+    both false y = refl

@@ -3,7 +3,7 @@
 use mathlib.Core.Path.{◌≡◌, refl, sym, ap, ◌∙◌}
 use mathlib.Core.Bool.{Bool, true, false, cond}
 use mathlib.Core.List.{List, [], ◌∷◌, map}
-use Prim.Native.Nat.{ℕ, zero, suc, ◌+◌, ◌*◌, ◌%◌, ◌^◌, ◌<◌, ◌≤◌}
+use Prim.Native.Nat.{ℕ, zero, suc, ◌+◌, ◌-◌, ◌*◌, ◌%◌, ◌^◌, ◌<◌, ◌≤◌}
 use native.Mathlib.Nat.{mul-suc}
 use native.Mathlib.Numerals.{add-one}
 use native.Mathlib.Omega.{arith}
@@ -115,10 +115,22 @@ cross_take mark [] S j h = omega arith
 cross_take mark (x ∷ T) S zero h = omega arith
 cross_take mark (x ∷ T) S (suc j) h = omega (arith, cross_take mark T S j (omega arith))
 
-pub cross_more : (mark : ℕ) (T S : List Slot) (j : ℕ) {n m : ℕ} → j < length T → n ≡ cross mark (take j T) S → m ≡ row_of mark (get_or T j free) S →
-    n + m ≡ cross mark (take (j + 1) T) S
-cross_more mark T S j h e f =
-    (λ i. e i + f i) ∙ sym (cross_take mark T S j h) ∙ ap (λ (k : ℕ). cross mark (take k T) S) (sym (add-one j))
+-- One slot more, of the part or not.
+pub cross_own : (mark : ℕ) (T S : List Slot) (j : ℕ) {n m : ℕ} → j < length T → n ≡ cross mark (take j T) S → mark_of (get_or T j free) ≡ mark →
+    m ≡ row (get_or T j free) S → n + m ≡ cross mark (take (j + 1) T) S
+unfolding row_of
+cross_own mark T S j {m} h e own f =
+    let x = get_or T j free in
+    let here : m ≡ row_of mark x S = f ∙ rw (eq-eqb (mark_of x) mark own) refl in
+    (λ i. e i + here i) ∙ sym (cross_take mark T S j h) ∙ ap (λ (k : ℕ). cross mark (take k T) S) (sym (add-one j))
+
+pub cross_other : (mark : ℕ) (T S : List Slot) (j : ℕ) {n : ℕ} → j < length T → n ≡ cross mark (take j T) S → (mark_of (get_or T j free) ≡ mark → ⊥) →
+    n ≡ cross mark (take (j + 1) T) S
+unfolding row_of
+cross_other mark T S j h e other =
+    let x = get_or T j free in
+    let none : row_of mark x S ≡ 0 = rw (ne_eqb (mark_of x) mark other) refl in
+    e ∙ omega (arith, none, cross_take mark T S j h) ∙ ap (λ (k : ℕ). cross mark (take k T) S) (sym (add-one j))
 
 pub cross_all : (mark : ℕ) (T S : List Slot) (j : ℕ) → length T ≤ j → cross mark (take j T) S ≡ cross mark T S
 cross_all mark T S j h = ap (λ (l : List Slot). cross mark l S) (take_all j T h)
@@ -205,30 +217,32 @@ without_shifted q by (x ∷ S) = λ i. one x i ∷ without_shifted q by S i
 
 -- ---- the count in 32 bits
 -- Taken out by subtraction and put in by addition, both without the carry: t is what is left between.
-replaced : (t less more rest n total : ℕ) → total ≡ less + t → n ≡ more + t → total ≤ 4096 → n ≤ 4096 →
-    (rest + less) % 2 ^ 32 ≡ total → rest < 2 ^ 32 → (rest + more) % 2 ^ 32 ≡ n
-replaced t less more rest n total a b c d e f = omega arith
+replaced : (t less more n total : ℕ) → total ≡ less + t → n ≡ more + t → total ≤ 4096 → n ≤ 4096 →
+    ((total + (2 ^ 32 - less)) % 2 ^ 32 + more) % 2 ^ 32 ≡ n
+replaced t less more n total a b c d = omega arith
 
 small : (S : List Slot) → length S ≡ 64 → tally S ≤ 4096
 small S long = omega (arith, tally≤ S 64 (omega arith))
 
 -- A slot is written.
-pub write_count : (S : List Slot) (s : ℕ) (x : Slot) (less more rest count : ℕ) → length S ≡ 64 → s < 64
+pub write_count : (S : List Slot) (s : ℕ) (x : Slot) (less more count : ℕ) → length S ≡ 64 → s < 64
     → less ≡ row (get_or S s free) S → more ≡ row (get_or (set S s x) s free) (set S s x)
-    → (rest + less) % 2 ^ 32 ≡ tally S → rest < 2 ^ 32 → count ≡ (rest + more) % 2 ^ 32 → count ≡ tally (set S s x)
-write_count S s x less more rest count long inside a b c d e =
-    e ∙ replaced (tally (set S s free)) less more rest (tally (set S s x)) (tally S)
+    → count ≡ tally S → ((count + (2 ^ 32 - less)) % 2 ^ 32 + more) % 2 ^ 32 ≡ tally (set S s x)
+write_count S s x less more count long inside a b c =
+    ap (λ (n : ℕ). ((n + (2 ^ 32 - less)) % 2 ^ 32 + more) % 2 ^ 32) c
+    ∙ replaced (tally (set S s free)) less more (tally (set S s x)) (tally S)
     (tally_out S s (omega arith) ∙ ap (λ (n : ℕ). n + tally (set S s free)) (sym a))
     (tally_out (set S s x) s (simp length-set (omega arith)) ∙ (λ i. sym b i + tally (set-set S s x free i)))
-    (small S long) (small (set S s x) (length-set S s x ∙ long)) c d
+    (small S long) (small (set S s x) (length-set S s x ∙ long))
 
 -- A part is moved.
-pub move_count : (q : ℕ) (by : List ℤ) (S : List Slot) (less more rest count : ℕ) → length S ≡ 64
+pub move_count : (q : ℕ) (by : List ℤ) (S : List Slot) (less more count : ℕ) → length S ≡ 64
     → less ≡ cross (suc q) S S → more ≡ cross (suc q) (map (shifted q by) S) (map (shifted q by) S)
-    → (rest + less) % 2 ^ 32 ≡ tally S → rest < 2 ^ 32 → count ≡ (rest + more) % 2 ^ 32 → count ≡ tally (map (shifted q by) S)
-move_count q by S less more rest count long a b c d e =
+    → count ≡ tally S → ((count + (2 ^ 32 - less)) % 2 ^ 32 + more) % 2 ^ 32 ≡ tally (map (shifted q by) S)
+move_count q by S less more count long a b c =
     let M = map (shifted q by) S in
-    e ∙ replaced (tally (map (without (suc q)) S)) less more rest (tally M) (tally S)
+    ap (λ (n : ℕ). ((n + (2 ^ 32 - less)) % 2 ^ 32 + more) % 2 ^ 32) c
+    ∙ replaced (tally (map (without (suc q)) S)) less more (tally M) (tally S)
     (tally_split (suc q) S ∙ ap (λ (n : ℕ). n + tally (map (without (suc q)) S)) (sym a))
     (tally_split (suc q) M ∙ (λ i. sym b i + tally (without_shifted q by S i)))
-    (small S long) (small M (length-map S (shifted q by) ∙ long)) c d
+    (small S long) (small M (length-map S (shifted q by) ∙ long))

@@ -7,13 +7,12 @@ use native.Mathlib.Omega.{arith}
 use borrow.Rule.Slice.PartMut.{put_mid}
 use lib.IntN.{ℤ, pos}
 use lib.ListN.{get_or, length, take, drop, replicate, length-replicate}
-use Rattle.algebra.proofs.Parts.{length_lent}
 use Rattle.exact.specs.Grid.{Ready}
 use Rattle.checks.specs.Grid.{all_on}
 use Rattle.checks.proofs.CheckLaws.{OnGrid, on_take, on_drop, on_all, all_on_grid_law}
 use Rattle.slots.specs.Slots.{Slot, free}
 use Rattle.slots.specs.Arrays.{numbers_of, flat}
-use Rattle.slots.specs.Showing.{FitSlot, Shown}
+use Rattle.slots.specs.Showing.{FitSlot, nine_at, Shown}
 use Rattle.slots.proofs.Arrays.{length_put}
 
 -- Lists on the grid stay so end to end, and zeros are on it.
@@ -46,11 +45,11 @@ shown_on {S} h = ap all_on h.coords_are ∙ on_all (flat S) (on_slots S h.fit.ea
 pub never_off : {S : List Slot} {coords : List ℤ} {parts : List ℕ} → Shown S coords parts → all_on coords ≡ false → ⊥
 never_off h e = omega (arith, ap {B = ℕ} (λ (b : Bool). cond b 1 0) (sym (shown_on h) ∙ e))
 
--- The part of a slot, as code lends it to a test.
-pub nine_ready : (i : ℕ) (coords : List ℤ) → i < 64 → length coords ≡ 576 → all_on coords ≡ true → Ready 9 (take (9 * i + 9 - 9 * i) (drop (9 * i) coords))
-nine_ready i coords h long on = record {
-  long = length_lent (9 * i) 9 coords (omega arith);
-  each = on_take (9 * i + 9 - 9 * i) (drop (9 * i) coords) (on_drop (9 * i) coords (all_on_grid_law coords on));
+-- The nine numbers of a slot, lent to a test.
+pub nine_ready : (i : ℕ) (coords : List ℤ) {lent : List ℤ} → lent ≡ nine_at i coords → length lent ≡ 9 → all_on coords ≡ true → Ready 9 lent
+nine_ready i coords is long on = record {
+  long = long;
+  each = rw is (on_take 9 (drop (9 * i) coords) (on_drop (9 * i) coords (all_on_grid_law coords on)));
 }
 
 -- Nine numbers on the grid, put in the place of nine others of a list that is.

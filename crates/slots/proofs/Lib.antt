@@ -9,6 +9,8 @@
 --   PartTriangles the triangles of a part, slot by slot, and written to a list
 --   Swallowed     a part that has a corner inside another
 --   Verdicts      which slots clash, from what the pair test promises
+--   Ranges        what code finds in the range of the 64 slots
+--   Asked         what slots answer that were asked where they lie on the grid
 -- Assumes nothing.
 pub mod Clashing
 pub mod Counts
@@ -19,3 +21,5 @@ pub mod PartTriangles
 pub mod Swallowed
 pub mod PartLaws
 pub mod Verdicts
+pub mod Ranges
+pub mod Asked

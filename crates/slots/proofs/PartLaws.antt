@@ -1,19 +1,50 @@
 -- A part moved slot by slot: the slots when the first k of them are done, and what the arrays show then. Assumes nothing.
 use mathlib.Core.Path.{◌≡◌, refl, sym, ap, subst, ◌∙◌}
 use mathlib.Core.List.{List, [], ◌∷◌, map}
-use Prim.Native.Nat.{ℕ, zero, suc, ◌+◌, ◌<◌, ◌≤◌}
+use mathlib.Core.Bool.{true}
+use Prim.Native.Nat.{ℕ, zero, suc, ◌+◌, ◌-◌, ◌*◌, ◌<◌, ◌≤◌}
 use native.Mathlib.Numerals.{add-one}
 use native.Mathlib.Omega.{arith}
 use lib.IntN.{ℤ}
-use lib.ListN.{set, get_or, length}
+use lib.ListN.{set, get_or, length, take, drop}
+use lib.Seq.{set-get_or}
+use borrow.Rule.Slice.PartMut.{put_mid}
+use Rattle.algebra.proofs.Parts.{part}
+use Rattle.shape.specs.Points.{moved}
+use Rattle.checks.specs.Grid.{all_on}
+use Rattle.checks.proofs.CheckLaws.{on_all}
 use Rattle.algebra.proofs.Copying.{over, over_at, over_more, over_all}
 use Rattle.slots.specs.Slots.{Slot, free}
 use Rattle.slots.specs.Changes.{shifted}
-use Rattle.slots.specs.Arrays.{mark_of, flat}
+use Rattle.slots.specs.Arrays.{numbers_of, mark_of, flat}
 use Rattle.slots.specs.Showing.{FitSlot, Fit, Shown, SlotMoved}
 use Rattle.slots.proofs.Counts.{mark_shifted}
-use Rattle.slots.proofs.Sliding.{shifted_at}
+use Rattle.slots.proofs.Sliding.{shifted_at, shifted_other, shifted_own}
+use Rattle.slots.proofs.Arrays.{coords_written, mark_is, numbers_are}
 
+-- ---- one slot
+-- The nine numbers at a slot with the mark are moved in place, and any other slot is what it was.
+pub slot_moved : (coords : List ℤ) (marks : List ℕ) (i mark : ℕ) (by : List ℤ) {new : List ℤ} → i < 64 → get_or marks i 0 ≡ mark
+    → (all_on (moved by (take (9 * i + 9 - 9 * i) (drop (9 * i) coords))) ≡ true → new ≡ moved by (take (9 * i + 9 - 9 * i) (drop (9 * i) coords)))
+    → SlotMoved coords marks i mark by (put_mid (9 * i) (9 * i + 9 - 9 * i) coords new)
+slot_moved coords marks i mark by inside same told = record {
+  is = λ S q h e f.
+      let x = get_or S i free in
+      let own : mark_of x ≡ suc q = sym (mark_is h i) ∙ same ∙ e in
+      let was : take (9 * i + 9 - 9 * i) (drop (9 * i) coords) ≡ numbers_of x = part (9 * i) 9 coords ∙ numbers_are h i inside in
+      let is : moved by (take (9 * i + 9 - 9 * i) (drop (9 * i) coords)) ≡ numbers_of (shifted q by x) = ap (moved by) was ∙ sym (shifted_own q by x own) in
+      coords_written h i (shifted q by x) (9 * i + 9 - 9 * i) inside (omega arith) (told (ap all_on is ∙ on_all (numbers_of (shifted q by x)) f.each) ∙ is);
+}
+
+pub slot_kept : (coords : List ℤ) (marks : List ℕ) (i mark : ℕ) (by : List ℤ) → (get_or marks i 0 ≡ mark → ⊥) → SlotMoved coords marks i mark by coords
+slot_kept coords marks i mark by different = record {
+  is = λ S q h e f.
+      let x = get_or S i free in
+      let other : shifted q by x ≡ x = shifted_other q by x (λ own. different (mark_is h i ∙ own ∙ sym e)) in
+      h.coords_are ∙ ap flat (sym (ap (set S i) other ∙ set-get_or S i free));
+}
+
+-- ---- all slots
 module _ (q : ℕ) (by : List ℤ) where
   -- The slots S, the first k of them moved.
   abbrev pub begun : List Slot → ℕ → List Slot

@@ -19,9 +19,11 @@ use Rattle.shape.proofs.TriangleLists.{triangles_more}
 use Rattle.slots.specs.Slots.{Slot, free, held, triangle, is_of}
 use Rattle.slots.specs.Parts.{triangles_of}
 use Rattle.slots.specs.Arrays.{numbers_of}
-use Rattle.slots.specs.Showing.{Shown}
+use Rattle.exact.specs.Grid.{Ready}
+use Rattle.slots.specs.Showing.{nine_at, Shown, SlotGathered}
 use Rattle.slots.proofs.Clashing.{mark_of_law}
-use Rattle.slots.proofs.Arrays.{mark_is}
+use Rattle.slots.proofs.Arrays.{mark_is, numbers_are}
+use Rattle.slots.proofs.Grids.{put_ready}
 
 -- One slot more: its triangle, if it is of the part.
 abbrev own : ℕ → Slot → List Shape
@@ -77,3 +79,24 @@ triangle_put n list nine fits long =
     triangles_more n list (put_mid (9 * n) (9 * n + 9 - 9 * n) list nine)
     (λ j k. put_before (9 * j) 9 (9 * n) (9 * n + 9 - 9 * n) list nine (omega (arith, mul-le-mul_left 9 k)) fits)
     (put_here (9 * n) 9 (9 * n + 9 - 9 * n) list nine fits long)
+
+-- ---- one slot
+-- A slot of another mark adds nothing to the list, one of this mark its triangle.
+pub gather_other : (coords : List ℤ) (marks : List ℕ) (i mark : ℕ) (list : List ℤ) (many : ℕ) → i < 64 → Ready 576 list → (get_or marks i 0 ≡ mark → ⊥) →
+    SlotGathered coords marks i mark list many list many
+gather_other coords marks i mark list many inside ready other = record {
+  most = omega arith;
+  ready = ready;
+  is = λ S q h e l. gathered_pass h q i inside (λ same. other (same ∙ sym e)) l;
+}
+
+pub gather_own : (coords : List ℤ) (marks : List ℕ) (i mark : ℕ) (list : List ℤ) (many : ℕ) {nine : List ℤ} → i < 64 → many ≤ i → Ready 576 list → Ready 9 nine
+    → nine ≡ nine_at i coords → get_or marks i 0 ≡ mark → SlotGathered coords marks i mark list many (put_mid (9 * many) (9 * many + 9 - 9 * many) list nine) (many + 1)
+gather_own coords marks i mark list many {nine} inside few ready good is same = record {
+  most = omega arith;
+  ready = put_ready many list nine (omega (arith, few, inside)) ready good;
+  is = λ S q h e l.
+      let new : nine ≡ numbers_of (get_or S i free) = is ∙ numbers_are h i inside in
+      gathered_more h q i inside (same ∙ e)
+      (triangle_put many list nine (omega (arith, few, inside, ready.long)) good.long ∙ (λ k. l k ++ (triangle (new k) ∷ [])));
+}

@@ -1,180 +1,126 @@
-// Clashes between slots, as the flat arrays show them. A slot has nine coordinates, from nine times its number on, and a mark: 0 where it is
-// empty, else its part number plus one.
-ghost use Rattle.std.specs.Prelude.{◌≡◌, true, List, ◌≤◌, ◌<◌, length, get_or};
+// Clashes between slots, and the triangles of a part, of slots that lie on the grid.
+ghost use Rattle.std.specs.Prelude.{◌≡◌, true, false, List, ◌≤◌, ◌<◌, slice_index_or, MatchOption};
 ghost use Rattle.checks.specs.Grid.{all_on};
+ghost use Rattle.exact.specs.Grid.{Ready};
 ghost use Rattle.slots.specs.Slots.{Slot, free};
-ghost use Rattle.shape.specs.Lists.{some};
-ghost use Rattle.slots.specs.Counting.{meets, strikes, row, row_of, cross, has_mark, strikes_if, strikes_mark, slot_strikes, marks_strike};
-ghost use Rattle.slots.specs.Showing.{nine_at, Sized, Shown};
+ghost use Rattle.slots.specs.Counting.{strikes, row, cross, strikes_mark, marks_strike};
+ghost use Rattle.slots.specs.Showing.{Shown, Gathered};
 
+use crate::flat::Slots;
 use checks::all_on;
 use kernel::triangles_meet;
 
-// Whether the triangles of two slots have a point in common.
-fn slots_meet(coords: &[i32], i: usize, j: usize) -> bool
-    requires { (length coords.now ≡ 576) × (all_on coords.now ≡ true) × (i < 64) × (j < 64) }
-    ensures { result ≡ meets (nine_at i coords.now) (nine_at j coords.now) }
-{
-    triangles_meet(&coords[9 * i..9 * i + 9], &coords[9 * j..9 * j + 9])
+// Slots whose coordinates all lie on the grid, as the pair test asks.
+#[derive(Clone, Copy)]
+pub struct GridSlots<'a> {
+    pub slots: &'a Slots,
+    ghost on: { all_on slots.now.coords ≡ true },
 }
 
-// Whether two slots clash.
-fn slots_clash(coords: &[i32], marks: &[u8], i: usize, j: usize) -> bool
-    requires { Sized coords.now marks.now × (i < 64) × (j < 64) }
-    ensures { (S : List Slot) → Shown S coords.now marks.now → result ≡ strikes (get_or S i free) (get_or S j free) }
-{
-    let p = marks[i];
-    let q = marks[j];
-    if p == 0 {
-        return false;
-    }
-    if q == 0 {
-        return false;
-    }
-    if p == q {
-        return false;
-    }
-    slots_meet(coords, i, j)
-}
-
-// How many slots clash with a slot.
-fn clashes_with(coords: &[i32], marks: &[u8], i: usize) -> u32
-    requires { Sized coords.now marks.now × (i < 64) }
-    ensures { (result ≤ 64) × ((S : List Slot) → Shown S coords.now marks.now → result ≡ row (get_or S i free) S) }
-{
-    if marks[i] == 0 {
-        return 0;
-    }
-    let mut n: u32 = 0;
-    let mut j: usize = 0;
-    while j < 64 {
-        n += slots_clash(coords, marks, i, j) as u32;
-        j += 1;
-    }
-    n
-}
-
-// The same whatever the coordinates are: off the grid, where no accepted change leaves them, there are none.
-pub fn slot_clashes(coords: &[i32], marks: &[u8], i: usize) -> u32
-    requires { (length coords.now ≡ 576) × (length marks.now ≡ 64) × (i < 64) }
-    ensures { (S : List Slot) → Shown S coords.now marks.now → result ≡ row (get_or S i free) S }
-{
-    if all_on(coords) {
-        return clashes_with(coords, marks, i);
-    }
-    0
-}
-
-// The clashes of a slot, if it has this mark.
-fn clashes_of(coords: &[i32], marks: &[u8], i: usize, mark: u8) -> u32
-    requires { Sized coords.now marks.now × (i < 64) }
-    ensures { (result ≤ 64) × ((S : List Slot) → Shown S coords.now marks.now → result ≡ row_of mark (get_or S i free) S) }
-{
-    if marks[i] == mark {
-        clashes_with(coords, marks, i)
-    } else {
-        0
-    }
-}
-
-// The clashes of all slots with this mark.
-fn clashes_all(coords: &[i32], marks: &[u8], mark: u8) -> u32
-    requires { Sized coords.now marks.now }
-    ensures { (S : List Slot) → Shown S coords.now marks.now → result ≡ cross mark S S }
-{
-    let mut n: u32 = 0;
-    let mut i: usize = 0;
-    while i < 64 {
-        n += clashes_of(coords, marks, i, mark);
-        i += 1;
-    }
-    n
-}
-
-// The same whatever the coordinates are.
-pub fn part_clashes(coords: &[i32], marks: &[u8], mark: u8) -> u32
-    requires { (length coords.now ≡ 576) × (length marks.now ≡ 64) }
-    ensures { (S : List Slot) → Shown S coords.now marks.now → result ≡ cross mark S S }
-{
-    if all_on(coords) {
-        return clashes_all(coords, marks, mark);
-    }
-    0
-}
-
-// Whether some slot has this mark.
-pub fn has_mark(marks: &[u8], mark: u8) -> bool
-    ensures { result ≡ some (has_mark mark) marks.now }
-{
-    let mut i: usize = 0;
-    while i < marks.len() {
-        if marks[i] == mark {
-            return true;
+impl<'a> GridSlots<'a> {
+    // Whether two slots clash.
+    fn strikes(self, i: usize, j: usize) -> bool
+        requires { (i < 64) × (j < 64) }
+        ensures { (S : List Slot) → Shown S self.entry.slots.now.coords self.entry.slots.now.marks → result ≡ strikes (slice_index_or S i free) (slice_index_or S j free) }
+    {
+        let p = self.slots.marks[i];
+        let q = self.slots.marks[j];
+        if p == 0 || q == 0 || p == q {
+            return false;
         }
-        i += 1;
+        triangles_meet(self.slots.numbers(i), self.slots.numbers(j))
     }
-    false
-}
 
-// Whether slot j has this mark and clashes with slot i.
-fn strikes_slot(coords: &[i32], marks: &[u8], i: usize, j: usize, mark: u8) -> bool
-    requires { Sized coords.now marks.now × (i < 64) × (j < 64) }
-    ensures { (S : List Slot) → Shown S coords.now marks.now → result ≡ strikes_if mark (get_or S i free) (get_or S j free) }
-{
-    if marks[j] != mark {
-        return false;
-    }
-    slots_clash(coords, marks, i, j)
-}
-
-// Whether a slot clashes with some slot of this mark.
-fn strikes_mark(coords: &[i32], marks: &[u8], i: usize, mark: u8) -> bool
-    requires { Sized coords.now marks.now × (i < 64) }
-    ensures { (S : List Slot) → Shown S coords.now marks.now → result ≡ strikes_mark mark (get_or S i free) S }
-{
-    let mut j: usize = 0;
-    while j < 64 {
-        if strikes_slot(coords, marks, i, j, mark) {
-            return true;
+    // How many slots clash with a slot.
+    fn slot_clashes(self, i: usize) -> u32
+        requires { i < 64 }
+        ensures most { result ≤ 64 }
+        ensures row { (S : List Slot) → Shown S self.entry.slots.now.coords self.entry.slots.now.marks → result ≡ row (slice_index_or S i free) S }
+    {
+        if self.slots.marks[i] == 0 {
+            return 0;
         }
-        j += 1;
+        (0..64).filter(|j| self.strikes(i, *j)).count() as u32
     }
-    false
-}
 
-// Whether a slot has the first mark and clashes with some slot of the second.
-fn slot_strikes(coords: &[i32], marks: &[u8], i: usize, first: u8, second: u8) -> bool
-    requires { Sized coords.now marks.now × (i < 64) }
-    ensures { (S : List Slot) → Shown S coords.now marks.now → result ≡ slot_strikes first second S (get_or S i free) }
-{
-    if marks[i] != first {
-        return false;
-    }
-    strikes_mark(coords, marks, i, second)
-}
-
-// Whether some slot of the first mark clashes with some slot of the second.
-fn marks_clash(coords: &[i32], marks: &[u8], first: u8, second: u8) -> bool
-    requires { Sized coords.now marks.now }
-    ensures { (S : List Slot) → Shown S coords.now marks.now → result ≡ marks_strike first second S }
-{
-    let mut i: usize = 0;
-    while i < 64 {
-        if slot_strikes(coords, marks, i, first, second) {
-            return true;
+    // The clashes of all slots with this mark.
+    fn part_clashes(self, mark: u8) -> u32
+        ensures { (S : List Slot) → Shown S self.entry.slots.now.coords self.entry.slots.now.marks → result ≡ cross mark S S }
+    {
+        let mut n = 0;
+        for i in 0..64 {
+            if self.slots.marks[i] == mark {
+                n += self.slot_clashes(i);
+            }
         }
-        i += 1;
+        n
     }
-    false
+
+    // Whether a slot clashes with some slot of this mark.
+    fn strikes_mark(self, i: usize, mark: u8) -> bool
+        requires { i < 64 }
+        ensures { (S : List Slot) → Shown S self.entry.slots.now.coords self.entry.slots.now.marks → result ≡ strikes_mark mark (slice_index_or S i free) S }
+    {
+        (0..64).any(|j| self.slots.marks[j] == mark && self.strikes(i, j))
+    }
+
+    // Whether some slot of the first mark clashes with some slot of the second.
+    fn marks_strike(self, first: u8, second: u8) -> bool
+        ensures { (S : List Slot) → Shown S self.entry.slots.now.coords self.entry.slots.now.marks → result ≡ marks_strike first second S }
+    {
+        (0..64).any(|i| self.slots.marks[i] == first && self.strikes_mark(i, second))
+    }
+
+    // Copies the numbers of each slot of a mark, one slot after the other, to the front of a list, and tells how many slots there are.
+    pub fn gather_part(self, mark: u8, triangles: &mut [i32; 576]) -> usize
+        requires { Ready 576 triangles.old }
+        ensures { Gathered self.entry.slots.now.coords self.entry.slots.now.marks mark triangles.new result }
+    {
+        let mut many = 0;
+        for i in 0..64 {
+            if self.slots.marks[i] == mark {
+                triangles[9 * many..9 * many + 9].copy_from_slice(self.slots.numbers(i));
+                many += 1;
+            }
+        }
+        many
+    }
 }
 
-// The same whatever the coordinates are.
-pub fn marks_strike(coords: &[i32], marks: &[u8], first: u8, second: u8) -> bool
-    requires { (length coords.now ≡ 576) × (length marks.now ≡ 64) }
-    ensures { (S : List Slot) → Shown S coords.now marks.now → result ≡ marks_strike first second S }
-{
-    if all_on(coords) {
-        return marks_clash(coords, marks, first, second);
+impl Slots {
+    // The same slots, if all their coordinates lie on the grid.
+    pub fn on_grid(&self) -> Option<GridSlots<'_>>
+        ensures { MatchOption result (all_on self.now.coords ≡ false) (λ on. on.slots.now ≡ self.now) }
+    {
+        if all_on(&self.coords) {
+            Some(GridSlots { slots: self })
+        } else {
+            None
+        }
     }
-    false
+
+    // How many slots clash with a slot.
+    pub fn slot_clashes(&self, i: usize) -> u32
+        requires { i < 64 }
+        ensures { (S : List Slot) → Shown S self.now.coords self.now.marks → result ≡ row (slice_index_or S i free) S }
+    {
+        self.on_grid().map_or(0, |on| on.slot_clashes(i))
+    }
+
+    // The clashes of all slots with this mark.
+    pub fn part_clashes(&self, mark: u8) -> u32
+        ensures { (S : List Slot) → Shown S self.now.coords self.now.marks → result ≡ cross mark S S }
+    {
+        self.on_grid().map_or(0, |on| on.part_clashes(mark))
+    }
+
+    // Whether some slot of the first mark clashes with some slot of the second.
+    pub fn marks_strike(&self, first: u8, second: u8) -> bool
+        ensures { (S : List Slot) → Shown S self.now.coords self.now.marks → result ≡ marks_strike first second S }
+    {
+        match self.on_grid() {
+            Some(on) => on.marks_strike(first, second),
+            None => false,
+        }
+    }
 }

@@ -2,10 +2,8 @@
 // meet, a part moved or gathered into one list, and the lowest slot that would leave the grid. Like crate `kernel`, this is the inside of the calls: it offers none itself.
 #![tactic(auto)]
 
-mod coordinates;
 mod counting;
-mod gathering;
+mod flat;
 
-pub use coordinates::{copy_numbers, lowest_leaving, move_part};
-pub use counting::{has_mark, marks_strike, part_clashes, slot_clashes};
-pub use gathering::gather_part;
+pub use counting::GridSlots;
+pub use flat::Slots;

@@ -17,11 +17,12 @@ use Rattle.estimates.proofs.Told.{Told}
 use Rattle.exact.proofs.Branches.{bit≤, both_true}
 use Rattle.exact.proofs.LevelLaws.{far_above_law, far_below_law}
 use Rattle.space.specs.Spaces.{SpaceAt, of_space, sure, ends_over}
-use Rattle.space.specs.declared.meeting.SpaceTriangle.{SpaceTriangle}
+use Rattle.exact.specs.declared.points.SpacePoint.{SpacePoint}
+use Rattle.exact.specs.declared.points.Triangle.{Triangle}
 use Rattle.space.proofs.Guesses.{sure_told}
 
 -- A function of a segment's ends and a triangle's corners that were read.
-pub segment_at : {p q p' q' a b c : Point} {t : SpaceTriangle} → p' ≡ p → q' ≡ q → SpaceAt a b c t → {X : Type 0} (f : (p q a b c : Point) → X) →
+pub segment_at : {p q p' q' a b c : Point} {t : Triangle SpacePoint} → p' ≡ p → q' ≡ q → SpaceAt a b c t → {X : Type 0} (f : (p q a b c : Point) → X) →
     of_space (f p' q') t ≡ f p q a b c
 segment_at p q t f = λ i. f (p i) (q i) (t.at_p i) (t.at_q i) (t.at_r i)
 

@@ -3,11 +3,11 @@
 use mathlib.Core.Path.{◌≡◌, refl, sym, ◌∙◌, ap, subst}
 use mathlib.Core.Bool.{Bool, true, false, not, ◌&&◌, cond}
 use mathlib.Core.List.{List, [], ◌∷◌}
-use Prim.Native.Nat.{ℕ, zero, suc, ◌+◌, ◌*◌, ◌/◌, ◌%◌, ◌^◌, ◌≤◌, ◌<◌}
+use Prim.Native.Nat.{ℕ, zero, suc, ◌*◌, ◌/◌, ◌≤◌}
 use native.Mathlib.Omega.{arith}
-use lib.ListN.{length, get_or}
 use lib.Dec.{eqb}
 use borrow.Author.Tests.{ltb-true, ltb-false}
+use Rattle.std.proofs.Common.{eqb-true}
 use lib.Ieee.{Float, nan}
 use lib.IntN.{ℤ, nat_abs}
 use mir.Val.{bool_byte}
@@ -22,34 +22,17 @@ use Rattle.shape.proofs.Planes.{side_by_normal}
 use Rattle.shape.proofs.Dropping.{axis_says}
 use Rattle.exact.specs.Grid.{limit, Ready}
 use Rattle.exact.specs.Small.{narrow, Narrow}
-use Rattle.exact.specs.Vectors.{spatial, Sized, minor_size, narrow_size, Holds, PlaneThrough, normal_in, plane_in, plane_row}
-use Rattle.plane.specs.Planes.{PlaneAt, SizedTriangle}
-use Rattle.space.specs.Spaces.{SpaceAt, SizedSpace, IsNormal, IsPlaneOf, SidesHold, of_space, of_spaces, of_list, turns_in, swap_in, told_standing, Numbered, Stands, first_place, second_place, third_place, InOrder, last_signs_by}
+use Rattle.exact.specs.Vectors.{spatial, components, Sized, minor_size, narrow_size, Holds, PlaneThrough, normal_in, plane_in, plane_row}
+use Rattle.space.specs.Spaces.{SpaceAt, SizedSpace, IsNormal, named_axis, IsPlaneOf, SidesHold, of_space, of_spaces, of_list, turns_in, swap_in, told_standing, Numbered, Stands, first_place, second_place, third_place, InOrder, last_signs_by}
+use Rattle.estimates.specs.Doubles.{rough, plane_of}
 use Rattle.estimates.specs.declared.Plane.{Plane}
-use Rattle.plane.specs.declared.meeting.PlaneTriangle.{PlaneTriangle}
-use Rattle.exact.specs.declared.determinant.SpacePoint.{SpacePoint}
-use Rattle.space.specs.declared.meeting.SpaceTriangle.{SpaceTriangle}
+use Rattle.std.specs.Prelude.{Some, None, unwrap_or}
+use Rattle.exact.specs.declared.points.SpacePoint.{SpacePoint}
+use Rattle.exact.specs.declared.points.Normal.{Normal}
+use Rattle.exact.specs.declared.points.Triangle.{Triangle}
 use Rattle.exact.proofs.GridLaws.{sized_within, sized_point}
-use Rattle.plane.proofs.PlaneLaws.{size_at}
-use Rattle.exact.proofs.Readings.{sized_row, sized_normal}
+use Rattle.exact.proofs.Readings.{kept, coordinate, sized_row, sized_normal}
 use Rattle.exact.proofs.Holding.{narrow_holds, small_holds}
-
--- The number is none of those below n, as a `match` leaves it that has an arm for each.
-abbrev pub NoneBelow : (n p : ℕ) → Type 0
-NoneBelow zero p = Unit {0}
-NoneBelow (suc n) p = NoneBelow n p × (p ≡ n → ⊥)
-
--- So it is no pattern.
-pub past_patterns : {X : Type 0} (p : ℕ) → NoneBelow 27 p → p ≤ 26 → X
-past_patterns p none few = absurd (omega (arith, least 27 none))
-  where
-    least : (n : ℕ) → NoneBelow n p → n ≤ p
-    least zero h = omega arith
-    least (suc n) h = omega (arith, least n h.0, h.1)
-
--- The number that an arm gives for its pattern.
-pub stands : {p s k : ℕ} → p ≡ k → told_standing s ≡ standing k → Numbered s → Stands p s
-stands e told number = record { told = told ∙ sym (ap standing e); number = number }
 
 -- The pattern that was found is that of two lists.
 pub stands_so : {p q s : ℕ} → p ≡ q → Stands p s → Stands q s
@@ -75,7 +58,7 @@ module _ {p s : ℕ} (found : Stands p s) (close : Bool) (crossing : ℕ → Boo
       numbered (suc (suc n)) h k = refl
 
 -- ---- the corners of a triangle that is known to stand at a, b, c
-module _ {a b c : Point} {t : SpaceTriangle} (at : SpaceAt a b c t) where
+module _ {a b c : Point} {t : Triangle SpacePoint} (at : SpaceAt a b c t) where
   pub space_size_at : {n : ℕ} → Sized n a → Sized n b → Sized n c → SizedSpace n t
   space_size_at {n} sa sb sc = record {
     at_p = subst (Sized n) (sym at.at_p) sa;
@@ -86,29 +69,29 @@ module _ {a b c : Point} {t : SpaceTriangle} (at : SpaceAt a b c t) where
   pub space_at : {X : Type 0} (f : Point → Point → Point → X) → of_space f t ≡ f a b c
   space_at f = λ i. f (at.at_p i) (at.at_q i) (at.at_r i)
 
-pub spaces_at : {a b c p q r : Point} {t u : SpaceTriangle} → SpaceAt a b c t → SpaceAt p q r u → {X : Type 0} (f : (p1 q1 r1 p2 q2 r2 : Point) → X) →
+pub spaces_at : {a b c p q r : Point} {t u : Triangle SpacePoint} → SpaceAt a b c t → SpaceAt p q r u → {X : Type 0} (f : (p1 q1 r1 p2 q2 r2 : Point) → X) →
     of_spaces f t u ≡ f a b c p q r
 spaces_at at_t at_u f = λ i. f (at_t.at_p i) (at_t.at_q i) (at_t.at_r i) (at_u.at_p i) (at_u.at_q i) (at_u.at_r i)
 
--- The triangle of a list that passed its checks.
-pub sized_triangle : {l : List ℤ} {t : SpaceTriangle} → Ready 9 l → SpaceAt (point_at 3 0 l) (point_at 3 3 l) (point_at 3 6 l) t → SizedSpace limit t
-sized_triangle ready at = space_size_at at (sized_point ready 3 0 refl) (sized_point ready 3 3 refl) (sized_point ready 3 6 refl)
-
 -- ---- normals
+-- The normal of a list's triangle is no larger than a triangle of the grid allows.
+pub sized_normal_in : {l : List ℤ} → Ready 9 l → Sized minor_size (normal_in l)
+sized_normal_in ready = sized_normal (sized_point ready 3 0 refl) (sized_point ready 3 3 refl) (sized_point ready 3 6 refl)
+
 -- The normal that is kept of a list is that of its triangle.
-pub normal_in_law : {l : List ℤ} {t : SpaceTriangle} {n : SpacePoint} → Ready 9 l → SpaceAt (point_at 3 0 l) (point_at 3 3 l) (point_at 3 6 l) t →
-    spatial n ≡ normal_in l → IsNormal t n
-normal_in_law {l} ready at e = record {
-  is = e ∙ sym (space_at at normal_of);
-  small = subst (λ (v : Point). Sized minor_size v) (sym e)
-      (sized_normal (sized_point ready 3 0 refl) (sized_point ready 3 3 refl) (sized_point ready 3 6 refl));
-}
+pub normal_in_law : (l : List ℤ) {t : Triangle SpacePoint} {n : Normal} → SpaceAt (point_at 3 0 l) (point_at 3 3 l) (point_at 3 6 l) t →
+    components n ≡ normal_in l → IsNormal t n
+normal_in_law l at e = record { is = e ∙ sym (space_at at normal_of) }
+
+-- And the plane that is kept of it in doubles.
+pub plane_in_law : (l : List ℤ) {t : Triangle SpacePoint} {plane : Plane} → SpaceAt (point_at 3 0 l) (point_at 3 3 l) (point_at 3 6 l) t →
+    plane ≡ plane_in l → IsPlaneOf t plane
+plane_in_law l at e = e ∙ sym (space_at at (λ a b c. plane_of (rough a) (rough b) (rough c)))
 
 -- The plane of a triangle in doubles, and its normal, from the first corner.
-pub plane_through : {t : SpaceTriangle} {n : SpacePoint} {plane : Plane} → SizedSpace limit t → IsNormal t n → IsPlaneOf t plane →
-    PlaneThrough (spatial t.p) (spatial n) plane
-plane_through {t} s normal is =
-    record { b = spatial t.q; c = spatial t.r; sized_b = s.at_q; sized_c = s.at_r; is = is; normal_is = normal.is }
+pub plane_through : {t : Triangle SpacePoint} {n : Normal} {plane : Plane} → IsNormal t n → IsPlaneOf t plane → PlaneThrough (spatial t.p) (components n) plane
+plane_through {t} normal is =
+    record { b = spatial t.q; c = spatial t.r; sized_b = t.q.on_grid; sized_c = t.r.on_grid; is = is; normal_is = normal.is }
 
 -- The low word tells a product with a narrow normal, for points of the grid.
 pub grid_holds : {p q : Point} {n : Point} → Sized limit p → Sized limit q → Sized narrow_size n → Holds (row p q) n
@@ -130,29 +113,19 @@ lists_hold k l nk nl = record { at_p = one 0; at_q = one 3; at_r = one 6 }
     one : (i : ℕ) → Holds (row (point_at 3 6 l) (point_at 3 i k)) (normal_in l)
     one i = small_holds (corner 0) (corner 3) (corner 6) (corner 6) (sized_within narrow k nk 3 i refl)
 
--- The same of the points and the normal that code holds.
-held_so : {p q n a b m : Point} → a ≡ p → b ≡ q → m ≡ n → Holds (row p q) n → Holds (row a b) m
-held_so ep eq en h = record { below = subst (λ (z : ℤ). nat_abs z < 2 ^ 63) (sym (λ i. dot (row (ep i) (eq i)) (en i))) h.below }
-
-pub sides_held : {k l : List ℤ} {t u : SpaceTriangle} {n : SpacePoint} → SidesHold k l →
-    SpaceAt (point_at 3 0 k) (point_at 3 3 k) (point_at 3 6 k) t → SpaceAt (point_at 3 0 l) (point_at 3 3 l) (point_at 3 6 l) u → spatial n ≡ normal_in l →
-    Holds (row (spatial u.r) (spatial t.p)) (spatial n) × Holds (row (spatial u.r) (spatial t.q)) (spatial n) × Holds (row (spatial u.r) (spatial t.r)) (spatial n)
-sides_held h at_t at_u e =
-    (held_so at_u.at_r at_t.at_p e h.at_p, held_so at_u.at_r at_t.at_q e h.at_q, held_so at_u.at_r at_t.at_r e h.at_r)
-
 -- The level over the plane through c that has the normal of a, b, c.
 pub level_told : {n : Point} (a b c d : Point) → n ≡ normal_of a b c → digit (sign (dot (row c d) n)) ≡ level a b c d
 level_told a b c d e = ap (λ (z : ℤ). digit (sign z)) (ap (dot (row c d)) e ∙ side_by_normal a b c d)
 
 -- What the normal of a triangle tells: levels over its plane, the coordinate to drop, whether it is flat.
-module _ (t : SpaceTriangle) {n : SpacePoint} (normal : IsNormal t n) where
-  pub level_by_normal : {r : ℕ} (d : Point) → r ≡ digit (sign (dot (row (spatial t.r) d) (spatial n))) → r ≡ of_space level t d
+module _ (t : Triangle SpacePoint) {n : Normal} (normal : IsNormal t n) where
+  pub level_by_normal : {r : ℕ} (d : Point) → r ≡ digit (sign (dot (row (spatial t.r) d) (components n))) → r ≡ of_space level t d
   level_by_normal d e = e ∙ level_told (spatial t.p) (spatial t.q) (spatial t.r) d normal.is
 
-  pub axis_by_normal : {r : ℕ} → r ≡ axis_of (spatial n) → r ≡ of_space axis t
+  pub axis_by_normal : {r : ℕ} → r ≡ axis_of (components n) → r ≡ of_space axis t
   axis_by_normal e = e ∙ ap axis_of normal.is
 
-  pub flat_by_normal : {r : Bool} → r ≡ eqb (axis_of (spatial n)) 3 → r ≡ is_flat 3 (spatial t.p ∷ spatial t.q ∷ spatial t.r ∷ [])
+  pub flat_by_normal : {r : Bool} → r ≡ eqb (axis_of (components n)) 3 → r ≡ is_flat 3 (spatial t.p ∷ spatial t.q ∷ spatial t.r ∷ [])
   flat_by_normal e =
       e ∙ ap (λ (k : ℕ). eqb k 3) (axis_by_normal refl)
       ∙ says_fixed (axis_says (spatial t.p) (spatial t.q) (spatial t.r)) (is_flat_law 3 (spatial t.p ∷ spatial t.q ∷ spatial t.r ∷ []))
@@ -189,11 +162,7 @@ in_places s r hs hr corner f = by_swap (swap_in r) refl
     by_swap true e = at 8 true (omega (arith, ltb-true 7 r e, hr.small)) (each (turns_in s) true hs.few)
 
 -- A triangle that was read in that order.
-module _ (s r : ℕ) (l : List ℤ) {t : SpaceTriangle} (at : InOrder s r l t) where
-  pub sized_in_order : Ready 9 l → SizedSpace limit t
-  sized_in_order ready =
-      space_size_at at (sized_point ready 3 (first_place s) refl) (sized_point ready 3 (second_place s r) refl) (sized_point ready 3 (third_place s r) refl)
-
+module _ (s r : ℕ) (l : List ℤ) {t : Triangle SpacePoint} (at : InOrder s r l t) where
   pub narrow_in_order : Narrow l → SizedSpace narrow t
   narrow_in_order small =
       space_size_at at (sized_within narrow l small 3 (first_place s) refl) (sized_within narrow l small 3 (second_place s r) refl)
@@ -203,7 +172,7 @@ module _ (s r : ℕ) (l : List ℤ) {t : SpaceTriangle} (at : InOrder s r l t) w
   of_in_order hs hr f = space_at at f ∙ in_places s r hs hr (λ k. point_at 3 k l) f
 
 -- The last signs of two triangles that were read so.
-pub last_in_order : (s r : ℕ) (k l : List ℤ) {t u : SpaceTriangle} → InOrder s r k t → InOrder r s l u → Numbered s → Numbered r →
+pub last_in_order : (s r : ℕ) (k l : List ℤ) {t u : Triangle SpacePoint} → InOrder s r k t → InOrder r s l u → Numbered s → Numbered r →
     of_spaces last_signs t u ≡ last_signs_by s r k l
 last_in_order s r k l {t} {u} at_t at_u hs hr =
     of_in_order s r k at_t hs hr (λ a b c. of_space (last_signs a b c) u)
@@ -219,20 +188,23 @@ neither {v} {w} {t} {u} e f = (λ i. not (e i) && not (f i)) ∙ each t u
     each false false = refl
 
 -- ---- a coordinate dropped
-sized_without : {n : ℕ} (k : ℕ) {a : Point} → Sized n a → Sized n (without k a)
-sized_without {n} k {a} s = record { each = each }
+-- Where none is named, the last is dropped.
+pub any_axis : {X : Type 0} (f : ℕ → X) → f 2 ≡ f 3 → (k : ℕ) → f (unwrap_or (named_axis k) 2) ≡ f k
+any_axis f same k = by_test (eqb k 3) refl
   where
-    each : (i : ℕ) → nat_abs (coord i (without k a)) ≤ n
+    by_test : (b : Bool) → eqb k 3 ≡ b → f (unwrap_or (cond b None (Some k)) 2) ≡ f k
+    by_test true e = same ∙ ap f (sym (eqb-true k 3 e))
+    by_test false e = refl
+
+-- The two coordinates that are kept of a point of the grid, as code reads them.
+pub kept_two : (k : ℕ) {a : Point} {x y : ℤ} → Sized limit a → x ≡ kept (coord (kept_first k) a) → y ≡ kept (coord (kept_second k) a) → Sized limit (x ∷ y ∷ [])
+kept_two k {a} {x} {y} s ex ey =
+    subst (Sized limit) (sym (λ i. (ex ∙ (coordinate tt s (kept_first k)).is) i ∷ (ey ∙ (coordinate tt s (kept_second k)).is) i ∷ [])) (record { each = each })
+  where
+    each : (i : ℕ) → nat_abs (coord i (without k a)) ≤ limit
     each zero = s.each (kept_first k)
     each (suc zero) = s.each (kept_second k)
     each (suc (suc i)) = omega arith
-
-pub sized_as_without : {n : ℕ} (k : ℕ) {a : Point} {b : Point} → b ≡ without k a → Sized n a → Sized n b
-sized_as_without {n} k e s = subst (Sized n) (sym e) (sized_without k s)
-
-pub sized_dropped : {n : ℕ} (k : ℕ) {t : SpaceTriangle} {u : PlaneTriangle} →
-    PlaneAt (without k (spatial t.p)) (without k (spatial t.q)) (without k (spatial t.r)) u → SizedSpace n t → SizedTriangle n u
-sized_dropped k at s = size_at at (sized_without k s.at_p) (sized_without k s.at_q) (sized_without k s.at_r)
 
 -- ---- rows of three doubles
 -- A plane whose numbers are those of the row is the list's.
@@ -250,11 +222,3 @@ plane_of_row u e = λ i. record { x = first (e i); y = second (e i); z = third (
     third : List Float → Float
     third [] = nan
     third (x ∷ l) = second l
-
--- A list of three is what it has at its three places.
-pub three_of : (l : List Float) (d : Float) → length l ≡ 3 → get_or l 0 d ∷ get_or l 1 d ∷ get_or l 2 d ∷ [] ≡ l
-three_of [] d e = absurd (omega arith)
-three_of (x ∷ []) d e = absurd (omega arith)
-three_of (x ∷ y ∷ []) d e = absurd (omega arith)
-three_of (x ∷ y ∷ z ∷ []) d e = refl
-three_of (x ∷ y ∷ z ∷ w ∷ l) d e = absurd (omega arith)

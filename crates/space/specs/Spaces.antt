@@ -1,6 +1,6 @@
 -- The vocabulary of the tests in space: triangles as the code holds them and as lists, segments as lists, and the decisions of crate `shape`
 -- (specs/SpaceTest.antt) on their corners and ends.
-use Rattle.std.specs.Prelude.{◌≡◌, Bool, true, ◌||◌, List, ℕ, zero, suc, ◌+◌, ◌*◌, ◌/◌, ◌%◌, ◌<◌, ◌≤◌, eqb, ltb, Float, ℤ}
+use Rattle.std.specs.Prelude.{◌≡◌, Bool, true, cond, ◌||◌, Option, Some, None, List, ℕ, zero, suc, ◌+◌, ◌*◌, ◌/◌, ◌%◌, ◌<◌, ◌≤◌, eqb, ltb, Float, ℤ}
 use mir.Val.{bool_byte}
 use Rattle.shape.specs.Points.{Point, point_at}
 use Rattle.shape.specs.Signs.{row}
@@ -9,21 +9,22 @@ use Rattle.shape.specs.SpaceTest.{level, Standing, beside, within, alone, standi
 use Rattle.estimates.specs.Doubles.{rough, plane_of, far_above, far_below}
 use Rattle.estimates.specs.declared.Plane.{Plane}
 use Rattle.exact.specs.Small.{narrow}
-use Rattle.exact.specs.Vectors.{spatial, Sized, minor_size, Holds, normal_in}
-use Rattle.exact.specs.declared.determinant.SpacePoint.{SpacePoint}
-use Rattle.space.specs.declared.meeting.SpaceTriangle.{SpaceTriangle}
+use Rattle.exact.specs.Vectors.{spatial, components, Sized, Holds, normal_in}
+use Rattle.exact.specs.declared.points.SpacePoint.{SpacePoint}
+use Rattle.exact.specs.declared.points.Normal.{Normal}
+use Rattle.exact.specs.declared.points.Triangle.{Triangle}
 
 -- The corners of t are a, b and c.
-pub record SpaceAt (a b c : Point) (t : SpaceTriangle) : Type 0 where
+pub record SpaceAt (a b c : Point) (t : Triangle SpacePoint) : Type 0 where
   pub at_p : spatial t.p ≡ a
   pub at_q : spatial t.q ≡ b
   pub at_r : spatial t.r ≡ c
 
 -- A function of triangles as one of their corners.
-abbrev pub of_space : {X : Type 0} → (Point → Point → Point → X) → SpaceTriangle → X
+abbrev pub of_space : {X : Type 0} → (Point → Point → Point → X) → Triangle SpacePoint → X
 of_space f t = f (spatial t.p) (spatial t.q) (spatial t.r)
 
-abbrev pub of_spaces : {X : Type 0} → ((p1 q1 r1 p2 q2 r2 : Point) → X) → SpaceTriangle → SpaceTriangle → X
+abbrev pub of_spaces : {X : Type 0} → ((p1 q1 r1 p2 q2 r2 : Point) → X) → Triangle SpacePoint → Triangle SpacePoint → X
 of_spaces f t = of_space (f (spatial t.p) (spatial t.q) (spatial t.r))
 
 -- The same of the corners in lists of nine numbers.
@@ -42,18 +43,21 @@ abbrev pub ends_over : (p q a b c : Point) → ℕ
 ends_over p q a b c = 3 * level a b c p + level a b c q
 
 -- No coordinate of a corner is larger than n, whatever its sign.
-pub record SizedSpace (n : ℕ) (t : SpaceTriangle) : Type 0 where
+pub record SizedSpace (n : ℕ) (t : Triangle SpacePoint) : Type 0 where
   pub at_p : Sized n (spatial t.p)
   pub at_q : Sized n (spatial t.q)
   pub at_r : Sized n (spatial t.r)
 
 -- The vector n is the normal of t.
-pub record IsNormal (t : SpaceTriangle) (n : SpacePoint) : Type 0 where
-  pub is : spatial n ≡ of_space normal_of t
-  pub small : Sized minor_size (spatial n)
+pub record IsNormal (t : Triangle SpacePoint) (n : Normal) : Type 0 where
+  pub is : components n ≡ of_space normal_of t
+
+-- The coordinate that a number names, where 3 names none, as `axis_of` of crate `shape` counts.
+abbrev pub named_axis : ℕ → Option ℕ
+named_axis k = cond (eqb k 3) None (Some k)
 
 -- The plane is that of t, in doubles.
-abbrev pub IsPlaneOf : SpaceTriangle → Plane → Type 0
+abbrev pub IsPlaneOf : Triangle SpacePoint → Plane → Type 0
 IsPlaneOf t plane = plane ≡ of_space (λ a b c. plane_of (rough a) (rough b) (rough c)) t
 
 -- The sides of the corners of t against the plane of u, nine numbers each, are so small that their low words tell them.
@@ -63,7 +67,7 @@ pub record SidesHold (t u : List ℤ) : Type 0 where
   pub at_r : Holds (row (point_at 3 6 u) (point_at 3 6 t)) (normal_in u)
 
 -- All corners of two triangles are so near that low words tell every side, where the flag says so.
-abbrev pub BothSized : Bool → (t u : SpaceTriangle) → Type 0
+abbrev pub BothSized : Bool → (t u : Triangle SpacePoint) → Type 0
 BothSized flag t u = flag ≡ true → SizedSpace narrow t × SizedSpace narrow u
 
 -- ---- what estimates tell
@@ -74,11 +78,10 @@ sure e = far_above e || far_below e
 abbrev pub sure_level : Float → ℕ
 sure_level e = 2 * bool_byte (far_above e)
 
--- A pattern that was guessed, and 1 where it is in doubt.
-pub record Guesses (pattern guessed doubt : ℕ) : Type 0 where
-  pub right : doubt ≡ 0 → guessed ≡ pattern
+-- A pattern that was guessed, and whether that is sure.
+pub record Guesses (pattern guessed : ℕ) (sure : Bool) : Type 0 where
+  pub right : sure ≡ true → guessed ≡ pattern
   pub small : guessed ≤ 26
-  pub flag : doubt ≤ 1
 
 -- A verdict by a number, 1 for yes and 0 for no. From 2 on it tells nothing.
 abbrev pub Crosses : Bool → ℕ → Type 0
@@ -120,7 +123,7 @@ abbrev pub third_place : (s r : ℕ) → ℕ
 third_place s r = 3 * ((turns_in s + 2 + 2 * (r / 8)) % 3)
 
 -- The corners of t are those of the list in that order.
-abbrev pub InOrder : (s r : ℕ) → List ℤ → SpaceTriangle → Type 0
+abbrev pub InOrder : (s r : ℕ) → List ℤ → Triangle SpacePoint → Type 0
 InOrder s r l t = SpaceAt (point_at 3 (first_place s) l) (point_at 3 (second_place s r) l) (point_at 3 (third_place s r) l) t
 
 -- The last signs of both triangles in the orders that their standings ask for.

@@ -4,23 +4,22 @@
 ghost use Rattle.std.specs.Prelude.{◌≡◌, ◌≤◌, ◌-◌};
 ghost use Rattle.shape.specs.Points.{point_at};
 ghost use Rattle.shape.specs.SpaceTest.{past_no_edge, segment_in_plane_test};
-ghost use Rattle.exact.specs.Grid.{limit, Ready};
-ghost use Rattle.exact.specs.Vectors.{spatial, Sized, normal_in};
-ghost use Rattle.space.specs.Spaces.{SizedSpace, of_space, of_list, of_segment, ends_over};
+ghost use Rattle.exact.specs.Grid.{Ready};
+ghost use Rattle.exact.specs.Vectors.{spatial, components, normal_in};
+ghost use Rattle.space.specs.Spaces.{of_space, of_list, of_segment, ends_over};
 
 use crate::meeting::{
     SpaceTriangle, axis_of, dropped, normal_of, space_triangle, without_coordinate,
 };
 use crate::standings::is_sure;
 use estimates::{estimate_of, is_above, is_below};
-use exact::{SpacePoint, level_over, normal_at, plane_at, rough_of, space_point};
+use exact::{Normal, SpacePoint, level_over, normal_at, plane_at, rough_of, space_point};
 use plane::segment_meets_plane;
 
 // ---- the ends against the triangle's plane
 
 // Three times the level of p over the plane of t, and the level of q.
 fn levels_of_ends(p: SpacePoint, q: SpacePoint, t: SpaceTriangle) -> u32
-    requires { Sized limit (spatial p) × Sized limit (spatial q) × SizedSpace limit t }
     ensures { (result ≡ of_space (ends_over (spatial p) (spatial q)) t) × (result ≤ 8) }
 {
     let plane = plane_at(t.p, t.q, t.r);
@@ -28,10 +27,11 @@ fn levels_of_ends(p: SpacePoint, q: SpacePoint, t: SpaceTriangle) -> u32
     let x = estimate_of(plane, a, rough_of(p));
     let y = estimate_of(plane, a, rough_of(q));
     if is_sure(x) & is_sure(y) {
-        return 6 * is_above(x) as u32 + 2 * is_above(y) as u32;
+        6 * is_above(x) as u32 + 2 * is_above(y) as u32
+    } else {
+        let n = normal_of(t);
+        3 * level_over(t.p, n, plane, p) + level_over(t.p, n, plane, q)
     }
-    let n = normal_of(t);
-    3 * level_over(t.p, n, plane, p) + level_over(t.p, n, plane, q)
 }
 
 // The same of the lists: 0 and 8 where both ends are strictly on one side, 4 where both are on the plane.
@@ -51,7 +51,6 @@ pub fn ends_over(first: &[i32], second: &[i32]) -> u32
 // Whether the segment p q from its higher end p passes no edge of the triangle on the outside. The plane through p, q and t.p serves two edges: the
 // sign of t.r over it is the opposite of that of t.p over the plane through p, q and t.r.
 fn passes_no_edge(p: SpacePoint, q: SpacePoint, t: SpaceTriangle) -> bool
-    requires { Sized limit (spatial p) × Sized limit (spatial q) × SizedSpace limit t }
     ensures { result ≡ of_space (past_no_edge (spatial p) (spatial q)) t }
 {
     let f = plane_at(p, q, t.p);
@@ -61,14 +60,15 @@ fn passes_no_edge(p: SpacePoint, q: SpacePoint, t: SpaceTriangle) -> bool
     let y = estimate_of(f, a, rough_of(t.r));
     let z = estimate_of(g, a, rough_of(t.r));
     if is_sure(x) & is_sure(y) & is_sure(z) {
-        return is_below(x) & is_above(y) & is_below(z);
+        is_below(x) & is_above(y) & is_below(z)
+    } else {
+        let m = normal_at(p, q, t.p);
+        let n = normal_at(p, q, t.q);
+        let i = level_over(p, m, f, t.q);
+        let j = level_over(p, m, f, t.r);
+        let k = level_over(p, n, g, t.r);
+        (i != 2) & (j != 0) & (k != 2)
     }
-    let m = normal_at(p, q, t.p);
-    let n = normal_at(p, q, t.q);
-    let i = level_over(p, m, f, t.q);
-    let j = level_over(p, m, f, t.r);
-    let k = level_over(p, n, g, t.r);
-    (i != 2) & (j != 0) & (k != 2)
 }
 
 // The same of the lists, where the higher end stands at the place `high`, 0 or 3, and the other at the other place.
@@ -86,11 +86,11 @@ pub fn passes(first: &[i32], high: usize, second: &[i32]) -> bool
 // ---- a segment in the plane
 
 // Whether a segment in the plane of a triangle that is not flat, whose normal is n, meets it.
-pub fn segment_meets_in_plane(first: &[i32], second: &[i32], n: SpacePoint) -> bool
-    requires { Ready 6 first.now × Ready 9 second.now × (spatial n ≡ normal_in second.now) }
+pub fn segment_meets_in_plane(first: &[i32], second: &[i32], n: Normal) -> bool
+    requires { Ready 6 first.now × Ready 9 second.now × (components n ≡ normal_in second.now) }
     ensures { result ≡ of_segment segment_in_plane_test first.now second.now }
 {
-    let k = axis_of(n);
+    let k = axis_of(n).unwrap_or(2); // of a normal that is zero any coordinate serves
     segment_meets_plane(
         without_coordinate(k, space_point(first, 0)),
         without_coordinate(k, space_point(first, 3)),

@@ -4,15 +4,15 @@ ghost use Rattle.std.specs.Prelude.{◌≡◌, ◌≤◌};
 ghost use Rattle.shape.specs.Signs.{row};
 ghost use Rattle.shape.specs.Normals.{normal_of};
 ghost use Rattle.shape.specs.SpaceTest.{last_signs};
-ghost use Rattle.exact.specs.Grid.{limit, Ready};
+ghost use Rattle.exact.specs.Grid.{Ready};
 ghost use Rattle.exact.specs.Small.{BothNarrow};
-ghost use Rattle.exact.specs.Vectors.{spatial, Sized, Holds, minor_size};
-ghost use Rattle.space.specs.Spaces.{SizedSpace, of_spaces, Numbered, first_place, second_place, third_place, InOrder, last_signs_by, BothSized, Crosses};
+ghost use Rattle.exact.specs.Vectors.{spatial, components, Holds};
+ghost use Rattle.space.specs.Spaces.{of_spaces, Numbered, first_place, second_place, third_place, InOrder, last_signs_by, BothSized, Crosses};
 
 use crate::meeting::SpaceTriangle;
 use crate::standings::is_sure;
 use estimates::{estimate_of, is_below};
-use exact::{SpacePoint, level_over, low_level, normal_at, plane_at, rough_of, space_point};
+use exact::{Normal, Triangle, level_over, low_level, normal_at, plane_at, rough_of, space_point};
 
 // The places in a triangle's list of nine numbers where its corners stand in the order that is asked for: its standing s tells the turns, and the
 // standing r of the other whether the last two are swapped. They are computed: the compiler would build a table anew for each question.
@@ -42,7 +42,7 @@ fn in_order(numbers: &[i32], s: u32, r: u32) -> SpaceTriangle
     requires { Ready 9 numbers.now × Numbered s × Numbered r }
     ensures { InOrder s r numbers.now result }
 {
-    SpaceTriangle {
+    Triangle {
         p: space_point(numbers, first_place(s)),
         q: space_point(numbers, second_place(s, r)),
         r: space_point(numbers, third_place(s, r)),
@@ -53,8 +53,8 @@ fn in_order(numbers: &[i32], s: u32, r: u32) -> SpaceTriangle
 
 // The two signs by the normals of their planes, where their low words tell them. Both are found before either is asked, which spares a branch that no
 // processor guesses.
-fn low_signs(t: SpaceTriangle, m: SpacePoint, u: SpaceTriangle, n: SpacePoint) -> bool
-    requires { SizedSpace limit t × SizedSpace limit u × (spatial m ≡ normal_of (spatial t.p) (spatial t.q) (spatial u.p)) × (spatial n ≡ normal_of (spatial t.p) (spatial t.r) (spatial u.r)) × Holds (row (spatial u.p) (spatial u.q)) (spatial m) × Holds (row (spatial u.r) (spatial u.p)) (spatial n) }
+fn low_signs(t: SpaceTriangle, m: Normal, u: SpaceTriangle, n: Normal) -> bool
+    requires { (components m ≡ normal_of (spatial t.p) (spatial t.q) (spatial u.p)) × (components n ≡ normal_of (spatial t.p) (spatial t.r) (spatial u.r)) × Holds (row (spatial u.p) (spatial u.q)) (components m) × Holds (row (spatial u.r) (spatial u.p)) (components n) }
     ensures { result ≡ of_spaces last_signs t u }
 {
     let one = low_level(u.p, m, u.q);
@@ -63,8 +63,8 @@ fn low_signs(t: SpaceTriangle, m: SpacePoint, u: SpaceTriangle, n: SpacePoint) -
 }
 
 // The same of any sides.
-fn exact_signs(t: SpaceTriangle, m: SpacePoint, u: SpaceTriangle, n: SpacePoint) -> bool
-    requires { SizedSpace limit t × SizedSpace limit u × (spatial m ≡ normal_of (spatial t.p) (spatial t.q) (spatial u.p)) × (spatial n ≡ normal_of (spatial t.p) (spatial t.r) (spatial u.r)) × Sized minor_size (spatial m) × Sized minor_size (spatial n) }
+fn exact_signs(t: SpaceTriangle, m: Normal, u: SpaceTriangle, n: Normal) -> bool
+    requires { (components m ≡ normal_of (spatial t.p) (spatial t.q) (spatial u.p)) × (components n ≡ normal_of (spatial t.p) (spatial t.r) (spatial u.r)) }
     ensures { result ≡ of_spaces last_signs t u }
 {
     let first = level_over(t.p, m, plane_at(t.p, t.q, u.p), u.q);
@@ -72,9 +72,9 @@ fn exact_signs(t: SpaceTriangle, m: SpacePoint, u: SpaceTriangle, n: SpacePoint)
     (first != 2) & (second != 2)
 }
 
-// By the estimate: 1 where the triangles meet, 0 where they don't, and from 2 on the number tells nothing.
+// By the estimate: 1 where the triangles meet, 0 where they don't, and from 2 on the number tells nothing. It is a number since `SeemToMeet` of crate
+// `kernel` speaks of one, by which crate `deciding` asks it without a branch.
 fn estimated_signs(t: SpaceTriangle, u: SpaceTriangle) -> u32
-    requires { SizedSpace limit t × SizedSpace limit u }
     ensures { Crosses (of_spaces last_signs t u) result }
 {
     let a = rough_of(t.p);
@@ -85,15 +85,16 @@ fn estimated_signs(t: SpaceTriangle, u: SpaceTriangle) -> u32
 
 // By their low words where the flag says that all numbers are small, else by the estimate first.
 fn last_signs(narrow: bool, t: SpaceTriangle, u: SpaceTriangle) -> bool
-    requires { SizedSpace limit t × SizedSpace limit u × BothSized narrow t u }
+    requires { BothSized narrow t u }
     ensures { result ≡ of_spaces last_signs t u }
 {
     let m = normal_at(t.p, t.q, u.p);
     let n = normal_at(t.p, t.r, u.r);
     if narrow {
-        return low_signs(t, m, u, n);
+        low_signs(t, m, u, n)
+    } else {
+        exact_signs(t, m, u, n)
     }
-    exact_signs(t, m, u, n)
 }
 
 // ---- of two lists

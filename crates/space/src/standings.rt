@@ -3,27 +3,28 @@
 ghost use Rattle.std.specs.Prelude.{◌≡◌, [], ◌∷◌, ◌≤◌, ◌<◌, length};
 ghost use Rattle.shape.specs.Signs.{row};
 ghost use Rattle.shape.specs.SpaceTest.{pattern};
-ghost use Rattle.exact.specs.Grid.{limit, Ready};
-ghost use Rattle.exact.specs.Vectors.{spatial, Holds, normal_in, plane_in, plane_row};
-ghost use Rattle.space.specs.Spaces.{SizedSpace, IsNormal, IsPlaneOf, of_spaces, of_lists, SidesHold, Stands, sure, sure_level, Guesses};
+ghost use Rattle.exact.specs.Grid.{Ready};
+ghost use Rattle.exact.specs.Sizes.{Sized, minor_size};
+ghost use Rattle.exact.specs.Vectors.{spatial, components, Holds, normal_in, plane_in, plane_row};
+ghost use Rattle.space.specs.Spaces.{IsNormal, IsPlaneOf, of_spaces, of_lists, SidesHold, Stands, sure, sure_level, Guesses};
 
 use crate::meeting::{SpaceTriangle, space_triangle};
 use estimates::{Plane, estimate_of, is_above, is_below};
-use exact::{SpacePoint, level_over, low_level, rough_of};
+use exact::{Normal, level_over, low_level, rough_of};
 
 // ---- exactly
 
 // The three signs of the corners of t against the plane of u, whose normal is n, read as a pattern from 0 to 26, where their low words tell them.
-fn low_pattern(t: SpaceTriangle, u: SpaceTriangle, n: SpacePoint) -> u32
-    requires { SizedSpace limit t × SizedSpace limit u × IsNormal u n × Holds (row (spatial u.r) (spatial t.p)) (spatial n) × Holds (row (spatial u.r) (spatial t.q)) (spatial n) × Holds (row (spatial u.r) (spatial t.r)) (spatial n) }
+fn low_pattern(t: SpaceTriangle, u: SpaceTriangle, n: Normal) -> u32
+    requires { IsNormal u n × Holds (row (spatial u.r) (spatial t.p)) (components n) × Holds (row (spatial u.r) (spatial t.q)) (components n) × Holds (row (spatial u.r) (spatial t.r)) (components n) }
     ensures { (result ≡ of_spaces pattern t u) × (result ≤ 26) }
 {
     9 * low_level(u.r, n, t.p) + 3 * low_level(u.r, n, t.q) + low_level(u.r, n, t.r)
 }
 
 // The same of any sides, where the plane of u is known in doubles, too.
-fn exact_pattern(t: SpaceTriangle, u: SpaceTriangle, n: SpacePoint, plane: Plane) -> u32
-    requires { SizedSpace limit t × SizedSpace limit u × IsNormal u n × IsPlaneOf u plane }
+fn exact_pattern(t: SpaceTriangle, u: SpaceTriangle, n: Normal, plane: Plane) -> u32
+    requires { IsNormal u n × IsPlaneOf u plane }
     ensures { (result ≡ of_spaces pattern t u) × (result ≤ 26) }
 {
     9 * level_over(u.p, n, plane, t.p)
@@ -31,7 +32,7 @@ fn exact_pattern(t: SpaceTriangle, u: SpaceTriangle, n: SpacePoint, plane: Plane
         + level_over(u.p, n, plane, t.r)
 }
 
-// The number of the standing that a pattern names: 0 beside, with all corners strictly on one side; 1 within, with all on the plane; or one corner is
+// The number of the standing that a pattern names, and no enum, since the places of the corners are computed from it without a branch: 0 beside, with all corners strictly on one side; 1 within, with all on the plane; or one corner is
 // alone on its side. Then it is 4 and the turns that put that corner first, and 4 more where the other triangle's last two corners have to be
 // swapped. A digit of the pattern is 0 for a corner below the plane, 1 on it, 2 above it, and the first corner's counts nine; beside each arm stands a
 // sign for each corner. Each pattern with a corner alone has an arm of its own, since the compiler makes a table of them so: numbers that stand side
@@ -74,16 +75,16 @@ fn standing_of(pattern: u32) -> u32
 }
 
 // The standing of t to the plane of u, whose normal is n, nine numbers each, where the low words of the sides tell them.
-pub fn low_standing(t: &[i32], u: &[i32], n: SpacePoint) -> u32
-    requires { Ready 9 t.now × Ready 9 u.now × (spatial n ≡ normal_in u.now) × SidesHold t.now u.now }
+pub fn low_standing(t: &[i32], u: &[i32], n: Normal) -> u32
+    requires { Ready 9 t.now × Ready 9 u.now × (components n ≡ normal_in u.now) × SidesHold t.now u.now }
     ensures { Stands (of_lists pattern t.now u.now) result }
 {
     standing_of(low_pattern(space_triangle(t), space_triangle(u), n))
 }
 
 // The same of any sides, where the plane of u is known in doubles, too.
-pub fn exact_standing(t: &[i32], u: &[i32], n: SpacePoint, plane: Plane) -> u32
-    requires { Ready 9 t.now × Ready 9 u.now × (spatial n ≡ normal_in u.now) × (plane ≡ plane_in u.now) }
+pub fn exact_standing(t: &[i32], u: &[i32], n: Normal, plane: Plane) -> u32
+    requires { Ready 9 t.now × Ready 9 u.now × (components n ≡ normal_in u.now) × (plane ≡ plane_in u.now) }
     ensures { Stands (of_lists pattern t.now u.now) result }
 {
     standing_of(exact_pattern(space_triangle(t), space_triangle(u), n, plane))
@@ -92,11 +93,11 @@ pub fn exact_standing(t: &[i32], u: &[i32], n: SpacePoint, plane: Plane) -> u32
 // ---- exactly, by rows that are kept
 
 // The normal that fills a row of three numbers.
-pub fn normal_in(numbers: &[i64]) -> SpacePoint
-    requires { length numbers.now ≡ 3 }
-    ensures { spatial result ≡ numbers.now }
+pub fn normal_in(numbers: &[i64]) -> Normal
+    requires { (length numbers.now ≡ 3) × Sized minor_size numbers.now }
+    ensures { components result ≡ numbers.now }
 {
-    SpacePoint {
+    Normal {
         x: numbers[0],
         y: numbers[1],
         z: numbers[2],
@@ -131,11 +132,12 @@ pub fn kept_standing(t: &[i32], u: &[i32], n: &[i64], plane: &[f64]) -> u32
 
 // ---- by the estimate
 
-// A pattern, and 1 where it is in doubt.
+// A pattern, and whether the estimates are sure of it. An `Option` in its place was tried and takes 5 in 100 more: it is asked once the standing is looked
+// up, and the flag is counted beside that.
 #[derive(Clone, Copy)]
 pub struct Guess {
     pub pattern: u32,
-    pub doubt: u32,
+    pub sure: bool,
 }
 
 // Whether an estimate is farther from zero than its error.
@@ -155,8 +157,8 @@ fn sure_level(e: f64) -> u32
 // The pattern of t over the plane of u in doubles. All three estimates are asked at once whether they are sure, which spares branches that no
 // processor guesses.
 fn guess_of(t: SpaceTriangle, u: SpaceTriangle, plane: Plane) -> Guess
-    requires { SizedSpace limit t × SizedSpace limit u × IsPlaneOf u plane }
-    ensures { Guesses (of_spaces pattern t u) result.pattern result.doubt }
+    requires { IsPlaneOf u plane }
+    ensures { Guesses (of_spaces pattern t u) result.pattern result.sure }
 {
     let a = rough_of(u.p);
     let x = estimate_of(plane, a, rough_of(t.p));
@@ -164,15 +166,15 @@ fn guess_of(t: SpaceTriangle, u: SpaceTriangle, plane: Plane) -> Guess
     let z = estimate_of(plane, a, rough_of(t.r));
     Guess {
         pattern: 9 * sure_level(x) + 3 * sure_level(y) + sure_level(z),
-        doubt: 1 - (is_sure(x) & is_sure(y) & is_sure(z)) as u32,
+        sure: is_sure(x) & is_sure(y) & is_sure(z),
     }
 }
 
-// The standing of t to the plane of u in doubles, nine numbers each. From 16 on the number tells nothing.
+// The standing of t to the plane of u in doubles, nine numbers each. From 16 on the number tells nothing, as `SeemsTo` of crate `kernel` has it.
 pub fn estimated_standing(t: &[i32], u: &[i32], plane: Plane) -> u32
     requires { Ready 9 t.now × Ready 9 u.now × (plane ≡ plane_in u.now) }
     ensures { result < 16 → Stands (of_lists pattern t.now u.now) result }
 {
     let guess = guess_of(space_triangle(t), space_triangle(u), plane);
-    standing_of(guess.pattern) + 16 * guess.doubt
+    standing_of(guess.pattern) + 16 * !guess.sure as u32
 }

@@ -1,66 +1,71 @@
-// The four numbers of the answer of each kind of call.
-ghost use Rattle.std.specs.Prelude.{◌≡◌};
+// The four numbers of the answer of any call, by a number for what it serves.
+ghost use Rattle.std.specs.Prelude.{◌≡◌, ℕ};
 ghost use Rattle.shape.specs.Signs.{digit};
 ghost use Rattle.exact.specs.SignNumbers.{sign_number};
-ghost use Rattle.checks.specs.Answers.{with_served};
-ghost use Rattle.checks.specs.Told.{told_check};
-ghost use Rattle.predicate.specs.Told.{told_sign, told_verdict};
-ghost use Rattle.listing.specs.Told.{told_list};
-ghost use Rattle.telling.specs.Numbers.{verdict_code, without_value, four_numbers, listed};
+ghost use Rattle.predicate.specs.Verdicts.{is_meeting};
+ghost use Rattle.telling.specs.Numbers.{verdict_code, told_by, four_numbers, listed};
 
 use crate::numbers::{Numbers, refused_numbers, served_numbers};
-use checks::Checked;
-use listing::ListAnswer;
-use predicate::{Sign, SignAnswer, VerdictAnswer};
+use checks::Refusal;
+use predicate::{Sign, Verdict};
 
-// The number of a sign.
-fn sign_code(sign: Sign) -> u64
-    ensures { result ≡ digit (sign_number sign) }
-{
-    match sign {
-        Sign::Negative => 0,
-        Sign::Zero => 1,
-        Sign::Positive => 2,
-    }
+// What a call serves, which has a number.
+pub trait Coded {
+    ghost code: { Self → ℕ };
+
+    fn code(self) -> u64
+        ensures { result ≡ code self };
 }
 
-// Of a sign call: what it serves is the number of the sign.
-pub fn sign_numbers(told: SignAnswer) -> Numbers
-    ensures { listed result ≡ four_numbers (with_served digit (told_sign told)) }
-{
-    match told {
-        SignAnswer::Refused(why) => refused_numbers(why),
-        SignAnswer::Signed(sign) => served_numbers(sign_code(sign)),
+// Of a sign call.
+impl Coded for Sign {
+    ghost code = { λ served. digit (sign_number served) };
+
+    fn code(self) -> u64 {
+        match self {
+            Sign::Negative => 0,
+            Sign::Zero => 1,
+            Sign::Positive => 2,
+        }
     }
 }
 
 // Of a verdict call.
-pub fn verdict_numbers(told: VerdictAnswer) -> Numbers
-    ensures { listed result ≡ four_numbers (with_served verdict_code (told_verdict told)) }
-{
-    match told {
-        VerdictAnswer::Refused(why) => refused_numbers(why),
-        VerdictAnswer::Apart => served_numbers(0),
-        VerdictAnswer::Meeting => served_numbers(1),
+impl Coded for Verdict {
+    ghost code = { λ served. verdict_code (is_meeting served) };
+
+    fn code(self) -> u64 {
+        match self {
+            Verdict::Apart => 0,
+            Verdict::Meeting => 1,
+        }
     }
 }
 
-// Of a listing: what it serves is the count of the pairs.
-pub fn list_numbers(told: ListAnswer) -> Numbers
-    ensures { listed result ≡ four_numbers (told_list told) }
-{
-    match told {
-        ListAnswer::Refused(why) => refused_numbers(why),
-        ListAnswer::Listed(pairs) => served_numbers(pairs as u64),
+// Of a listing: the count of the pairs.
+impl Coded for usize {
+    ghost code = { λ served. served };
+
+    fn code(self) -> u64 {
+        self as u64
     }
 }
 
-// Of a call that changes a plate.
-pub fn change_numbers(told: Checked) -> Numbers
-    ensures { listed result ≡ four_numbers (without_value (told_check told)) }
+// Of a call that changes a plate: it serves nothing.
+impl Coded for () {
+    ghost code = { λ served. 0 };
+
+    fn code(self) -> u64 {
+        0
+    }
+}
+
+// The four numbers of an answer.
+pub fn numbers_of<T: Coded>(told: Result<T, Refusal>) -> Numbers
+    ensures { listed result ≡ four_numbers (told_by T.code told) }
 {
     match told {
-        Checked::Refused(why) => refused_numbers(why),
-        Checked::Fine => served_numbers(0),
+        Ok(served) => served_numbers(served.code()),
+        Err(why) => refused_numbers(why),
     }
 }

@@ -6,5 +6,5 @@
 mod answers;
 mod numbers;
 
-pub use answers::{change_numbers, list_numbers, sign_numbers, verdict_numbers};
+pub use answers::{Coded, numbers_of};
 pub use numbers::{Numbers, put};

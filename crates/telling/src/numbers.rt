@@ -23,7 +23,7 @@ pub fn served_numbers(value: u64) -> Numbers
         number: 0,
         side: 0,
         place: 0,
-        value: value,
+        value,
     }
 }
 
@@ -32,23 +32,22 @@ pub fn refused_numbers(why: Refusal) -> Numbers
     ensures { listed result ≡ four_numbers (told_refusal why) }
 {
     Numbers {
-        number: why.number as u64,
-        side: why.side as u64,
+        number: u64::from(why.reason.number()),
+        side: u64::from(why.side),
         place: why.place as u64,
         value: 0,
     }
 }
 
-// Writes the numbers to the front of the buffer and gives 0, or gives 1 where the buffer is too short for them.
+// Writes the numbers to the front of the buffer and gives 0, or gives 1 where the buffer is too short for them: the C interface tells so.
 pub fn put(answer: &mut [u64], numbers: Numbers) -> u32
     ensures { Written (listed numbers) answer.old result answer.new }
 {
-    if answer.len() < 4 {
-        return 1;
+    match answer.first_chunk_mut::<4>() {
+        None => 1,
+        Some(front) => {
+            *front = [numbers.number, numbers.side, numbers.place, numbers.value];
+            0
+        }
     }
-    answer[0] = numbers.number;
-    answer[1] = numbers.side;
-    answer[2] = numbers.place;
-    answer[3] = numbers.value;
-    0
 }

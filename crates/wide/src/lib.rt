@@ -26,17 +26,16 @@ pub fn add(a: Wide, b: Wide) -> Wide
     requires { Small (value a +ℤ value b) }
     ensures { value result ≡ value a +ℤ value b }
 {
-    let lo = std::num::wrapping_add_u64(a.lo, b.lo);
-    let low = a.lo;
-    if lo < low {
+    let lo = a.lo.wrapping_add(b.lo);
+    if lo < a.lo {
         Wide {
             hi: a.hi + b.hi + 1,
-            lo: lo,
+            lo,
         }
     } else {
         Wide {
             hi: a.hi + b.hi,
-            lo: lo,
+            lo,
         }
     }
 }
@@ -46,17 +45,16 @@ pub fn sub(a: Wide, b: Wide) -> Wide
     requires { Small (value a -ℤ value b) }
     ensures { value result ≡ value a -ℤ value b }
 {
-    let lo = std::num::wrapping_sub_u64(a.lo, b.lo);
-    let low = a.lo;
-    if low < lo {
+    let lo = a.lo.wrapping_sub(b.lo);
+    if a.lo < lo {
         Wide {
             hi: a.hi - b.hi - 1,
-            lo: lo,
+            lo,
         }
     } else {
         Wide {
             hi: a.hi - b.hi,
-            lo: lo,
+            lo,
         }
     }
 }
@@ -65,12 +63,10 @@ pub fn sub(a: Wide, b: Wide) -> Wide
 pub fn sign(a: Wide) -> i64
     ensures { result ≡ sign (value a) }
 {
-    let hi = a.hi;
-    let lo = a.lo;
-    if hi < 0 {
+    if a.hi < 0 {
         -1
-    } else if hi == 0 {
-        if lo == 0 { 0 } else { 1 }
+    } else if a.hi == 0 && a.lo == 0 {
+        0
     } else {
         1
     }

@@ -5,15 +5,6 @@ use Rattle.shape.specs.Points.{Point, coord}
 use Rattle.shape.specs.Flat.{all_below, is_flat}
 use Rattle.shape.specs.SpaceTest.{segment_in_plane_test}
 use Rattle.shape.specs.WireTest.{stretches_meet, shadows_meet, segments_test, either_edge, segment_triangle_test}
-use Rattle.exact.specs.Grid.{limit}
-use Rattle.exact.specs.Vectors.{Sized}
-
--- Four points of the grid, the ends of two segments.
-pub record OnGrid (p q u v : Point) : Type 0 where
-  pub at_p : Sized limit p
-  pub at_q : Sized limit q
-  pub at_u : Sized limit u
-  pub at_v : Sized limit v
 
 -- The stretches of two segments meet along each coordinate.
 abbrev pub along_meet : (p q u v : Point) → Bool

@@ -7,7 +7,7 @@ ghost use Rattle.exact.specs.Grid.{Ready};
 ghost use Rattle.space.specs.Spaces.{of_segment, of_lists};
 ghost use Rattle.wires.specs.Wires.{edges_meet, level_test, edge_meets};
 
-use crate::segments::segments_meet;
+use crate::segments::{Segment, segments_meet};
 use exact::space_point;
 use space::{
     ends_over, is_null, meet_in_plane, normal_of, passes, segment_meets_in_plane, space_triangle,
@@ -20,13 +20,12 @@ fn edge_meets_segment(first: &[i32], second: &[i32]) -> bool
     requires { Ready 6 first.now × Ready 9 second.now }
     ensures { result ≡ of_segment edges_meet first.now second.now }
 {
-    let p = space_point(first, 0);
-    let q = space_point(first, 3);
+    let s = Segment {
+        p: space_point(first, 0),
+        q: space_point(first, 3),
+    };
     let t = space_triangle(second);
-    if segments_meet(p, q, t.p, t.q) {
-        return true;
-    }
-    segments_meet(p, q, t.q, t.r)
+    segments_meet(s, Segment { p: t.p, q: t.q }) || segments_meet(s, Segment { p: t.q, q: t.r })
 }
 
 // Whether a segment in the plane of a triangle meets it. Every point is on the plane of a flat one, whose normal is zero.
@@ -36,9 +35,10 @@ fn level_segment_meets(first: &[i32], second: &[i32]) -> bool
 {
     let n = normal_of(space_triangle(second));
     if is_null(n) {
-        return edge_meets_segment(&first[..], &second[..]);
+        edge_meets_segment(&first[..], &second[..])
+    } else {
+        segment_meets_in_plane(&first[..], &second[..], n)
     }
-    segment_meets_in_plane(&first[..], &second[..], n)
 }
 
 // Whether a segment and a triangle have a point in common. That both ends are strictly on one side is one question, since no processor guesses which
@@ -49,13 +49,13 @@ pub fn segment_meets_any(first: &[i32], second: &[i32]) -> bool
 {
     let ends = ends_over(&first[..], &second[..]);
     if ends % 8 == 0 {
-        return false;
+        false
+    } else if ends == 4 {
+        level_segment_meets(&first[..], &second[..])
+    } else {
+        let high = 3 * (ends / 3 < ends % 3) as usize;
+        passes(&first[..], high, &second[..])
     }
-    if ends == 4 {
-        return level_segment_meets(&first[..], &second[..]);
-    }
-    let high = 3 * (ends / 3 < ends % 3) as usize;
-    passes(&first[..], high, &second[..])
 }
 
 // ---- two triangles
@@ -65,10 +65,7 @@ fn edge_meets(t: &[i32], u: &[i32]) -> bool
     requires { Ready 9 t.now × Ready 9 u.now }
     ensures { result ≡ of_lists edge_meets t.now u.now }
 {
-    if segment_meets_any(&t[0..6], &u[..]) {
-        return true;
-    }
-    segment_meets_any(&t[3..9], &u[..])
+    segment_meets_any(&t[0..6], &u[..]) || segment_meets_any(&t[3..9], &u[..])
 }
 
 // Whether two triangles have a point in common, where the first is in the plane of the second, or one is flat. Nothing asks for flat ones before the
@@ -79,12 +76,12 @@ pub fn close_meet(t: &[i32], u: &[i32]) -> bool
 {
     let a = space_triangle(t);
     let b = space_triangle(u);
-    if is_null(normal_of(a)) {
-        return edge_meets(&t[..], &u[..]);
-    }
     let n = normal_of(b);
-    if is_null(n) {
-        return edge_meets(&u[..], &t[..]);
+    if is_null(normal_of(a)) {
+        edge_meets(&t[..], &u[..])
+    } else if is_null(n) {
+        edge_meets(&u[..], &t[..])
+    } else {
+        meet_in_plane(a, b, n)
     }
-    meet_in_plane(a, b, n)
 }

@@ -7,22 +7,23 @@ use Rattle.deciding.proofs.deciding.decide_lists.Goals as goal
 pub decide_words-requires : goal.decide_words-requires
 decide_words-requires c = (
   record {
-    sound = c.requires.0;
-    room = omega (arith, c.normals-2-1.given, c.requires.0.few);
-    normal = c.put_normals.ensures;
+    first = record {
+      sound = c.requires.0;
+      room = omega (arith, c.normals-2-1.given, c.requires.0.few);
+      normal = c.put_normals.ensures;
+    };
+    second = record {
+      sound = c.requires.1;
+      room = omega (arith, c.others-2-1.given, c.requires.1.few);
+      normal = c.put_normals-2.ensures;
+    };
+    planned = λ wide. (
+      record { room = omega (arith, c.planes-2-1.given, c.requires.0.few); plane = c.put_planes_unless.ensures wide },
+      record { room = omega (arith, c.rough-2-1.given, c.requires.1.few); plane = c.put_planes_unless-2.ensures wide },
+    );
+    small = λ flag. let each = both_true c.is_narrow.result c.is_narrow-2.result flag in
+        (c.is_narrow.ensures.yes each.0, c.is_narrow-2.ensures.yes each.1);
   },
-  record {
-    sound = c.requires.1;
-    room = omega (arith, c.others-2-1.given, c.requires.1.few);
-    normal = c.put_normals-2.ensures;
-  },
-  omega (arith, c.planes-2-1.given, c.requires.0.few),
-  (λ wide. (
-    record { room = omega (arith, c.planes-2-1.given, c.requires.0.few); plane = c.put_planes_unless.ensures wide },
-    record { room = omega (arith, c.rough-2-1.given, c.requires.1.few); plane = c.put_planes_unless-2.ensures wide },
-  )),
-  (λ flag. let each = both_true c.is_narrow.result c.is_narrow-2.result flag in
-      (c.is_narrow.ensures.yes each.0, c.is_narrow-2.ensures.yes each.1)),
   omega (arith, c.requires.2, c.words-1.given),
   c.put_all_candidates.ensures,
 )

@@ -10,5 +10,5 @@ pub returns : goal.returns
 returns c =
     let p = c.args in
     c.side_over.ensures
-    ∙ ap (dot (row (spatial p.c) (spatial p.d))) c.normal_at.ensures.0
+    ∙ ap (dot (row (spatial p.c) (spatial p.d))) c.normal_at.ensures
     ∙ side_by_normal (spatial p.a) (spatial p.b) (spatial p.c) (spatial p.d)

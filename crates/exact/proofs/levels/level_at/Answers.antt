@@ -7,6 +7,6 @@ use Rattle.exact.proofs.levels.level_at.Goals as goal
 pub returns : goal.returns
 returns c =
     let a = c.args in (
-      c.level_over.ensures.0 ∙ level_from_first (spatial a.a) (spatial a.b) (spatial a.c) (spatial a.d) c.normal_at.ensures.0,
+      c.level_over.ensures.0 ∙ level_from_first (spatial a.a) (spatial a.b) (spatial a.c) (spatial a.d) c.normal_at.ensures,
       c.level_over.ensures.1,
     )

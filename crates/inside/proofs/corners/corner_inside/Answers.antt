@@ -1,38 +1,37 @@
--- `inside::corners::corner_inside` meets its contract: no triangle before i has a corner inside. Assumes nothing.
-use mathlib.Core.Path.{◌≡◌, sym, ap, ◌∙◌}
-use Prim.Native.Nat.{ℕ}
-use native.Mathlib.Omega.{arith}
+-- `inside::corners::corner_inside` meets its contract: the triangles are asked in turn. Assumes nothing.
+use Rattle.std.proofs.Common.{◌≡◌, ◌∙◌, ◌/◌, Bool, List, ap, sym, length, ℤ, rules, tests}
+use Rattle.std.specs.List.{list_any, All}
+use Rattle.std.proofs.lemmas.Iterator.{YieldsList-from_slice}
+use Rattle.std.proofs.lemmas.Iterator.Adapters.{serves_from_places}
+use Rattle.std.proofs.lemmas.Iterator.Search.{any_from_yields_List}
+use Rattle.shape.specs.Points.{Point}
 use Rattle.shape.specs.Lists.{some}
-use Rattle.shape.specs.TriangleLists.{triangles_in}
+use Rattle.shape.specs.InsideTest.{odd_ahead, corner_in}
+use Rattle.shape.specs.TriangleLists.{triangle_of, triangles_of}
 use Rattle.shape.proofs.ListLaws.{some_held}
-use Rattle.shape.proofs.TriangleLists.{none_yet, none_more, some_here}
-use borrow.Author.Rules.{rules}
-use Rattle.inside.proofs.corners.corner_inside.Invariants.{is_inside, has_inside}
+use Rattle.shape.proofs.TriangleLists.{any_some, chunks_hold}
+use Rattle.exact.specs.Grid.{Ready}
+use Rattle.inside.proofs.Chunks.{all_ready}
 use Rattle.inside.proofs.corners.corner_inside.Goals as goal
 
-pub loop-i-init : goal.loop-i-init
-loop-i-init c =
-    let a = c.args in
-    (search rules, none_yet (has_inside a.n a.others.now) a.triangles.now)
-
-pub returns-then-listed_inside : goal.returns-then-listed_inside
-returns-then-listed_inside c =
-    let a = c.args in
-    let f = has_inside a.n a.others.now in
-    let l = a.triangles.now in
-    sym (some_here f l c.loop-i.i a.m c.loop-i-test.true (sym c.listed_inside.ensures ∙ c.if-listed_inside.true))
-    ∙ sym (some_held (is_inside a.n a.others.now) (λ P. P) (triangles_in a.m l))
-
-pub loop-i-preserved : goal.loop-i-preserved
-loop-i-preserved c =
-    let a = c.args in
-    (search rules, none_more (has_inside a.n a.others.now) a.triangles.now c.loop-i.i c.loop-i.invariant.1 (sym c.listed_inside.ensures ∙ c.if-listed_inside.false))
+pub any-requires-clause-callable : goal.any-requires-clause-callable
+any-requires-clause-callable c =
+    let ts = c.as_chunks.result.0.now in
+    let us = c.as_chunks-2.result.0.now in
+    let first : All (Ready 9) ts = rw c.as_chunks.ensures.front (all_ready c.args.triangles.now c.requires.0) in
+    let second : All (Ready 9) us = rw c.as_chunks-2.ensures.front (all_ready c.args.others.now c.requires.1) in
+    serves_from_places (YieldsList-from_slice ts cc) (λ x q k. search rules) (λ x k h e. let this : Ready 9 x.now = rw e (first k x.now h) in search rules)
 
 pub returns : goal.returns
 returns c =
-    let a = c.args in
-    let f = has_inside a.n a.others.now in
-    let l = a.triangles.now in
-    let end : c.loop-i.i ≡ a.m = omega (arith, c.loop-i-test.false, c.loop-i.invariant.0) in
-    sym (ap (λ (k : ℕ). some f (triangles_in k l)) (sym end) ∙ c.loop-i.invariant.1)
-    ∙ sym (some_held (is_inside a.n a.others.now) (λ P. P) (triangles_in a.m l))
+    let ts = c.as_chunks.result.0.now in
+    let us = c.as_chunks-2.result.0.now in
+    let inner : Point → Bool = λ a. odd_ahead a (triangles_of us) in
+    let asked : c.any.result ≡ list_any (λ (t : List ℤ). some inner (triangle_of t)) ts =
+    any_from_yields_List (λ (t : List ℤ). some inner (triangle_of t)) _ _ c.any.result c.any.ensures.ran (YieldsList-from_slice ts cc) (λ x b q k. search (rules, tests)) in
+    let all_first = ap triangles_of c.as_chunks.ensures.front ∙ chunks_hold (length c.args.triangles.now / 9) c.args.triangles.now in
+    let all_second = ap triangles_of c.as_chunks-2.ensures.front ∙ chunks_hold (length c.args.others.now / 9) c.args.others.now in
+    asked
+    ∙ any_some triangle_of (some inner) ts
+    ∙ sym (some_held inner (λ P. P) (triangles_of ts))
+    ∙ (λ i. corner_in (all_first i) (all_second i))

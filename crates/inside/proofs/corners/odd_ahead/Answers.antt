@@ -1,25 +1,17 @@
--- `inside::corners::odd_ahead` meets its contract: odd says it of the first i triangles. Assumes nothing.
-use mathlib.Core.Path.{◌≡◌, ap, ◌∙◌}
-use Prim.Native.Nat.{ℕ}
-use native.Mathlib.Omega.{arith}
-use Rattle.shape.specs.InsideTest.{odd_ahead}
-use Rattle.shape.specs.TriangleLists.{triangles_in}
-use Rattle.shape.proofs.TriangleLists.{odd_none, odd_more}
+-- `inside::corners::odd_ahead` meets its contract: those that are ahead are counted. Assumes nothing.
+use Rattle.std.proofs.Common.{◌≡◌, length, filter, List, ℤ, ap, ◌∙◌, rules, tests}
+use Rattle.std.proofs.lemmas.Iterator.{YieldsList-from_slice}
+use Rattle.std.proofs.lemmas.Iterator.Consumers.{count_from_yields_List, YieldsList-from_filter, YieldsList-at}
+use Rattle.shape.specs.InsideTest.{is_ahead}
+use Rattle.shape.specs.TriangleLists.{triangle_of}
 use Rattle.exact.specs.Vectors.{spatial}
-use borrow.Author.Rules.{rules}
+use Rattle.inside.proofs.Counts.{is_odd, odd_counted}
 use Rattle.inside.proofs.corners.odd_ahead.Goals as goal
-
-pub loop-i-init : goal.loop-i-init
-loop-i-init c = (search rules, odd_none (spatial c.args.p) c.args.triangles.now)
-
-pub loop-i-preserved : goal.loop-i-preserved
-loop-i-preserved c =
-    let l = c.loop-i in
-    (search rules, odd_more (spatial c.args.p) c.args.triangles.now l.i l.invariant.1 c.listed_ahead.ensures c.odd_with-odd.ensures)
 
 pub returns : goal.returns
 returns c =
-    let l = c.loop-i in
-    let a = c.args in
-    let end : l.i ≡ a.many = omega (arith, c.loop-i-test.false, l.invariant.0) in
-    l.invariant.1 ∙ ap (λ (k : ℕ). odd_ahead (spatial a.p) (triangles_in k a.triangles.now)) end
+    let ts = c.args.triangles.now in
+    let counted : c.count-ahead.result ≡ length (filter (λ (t : List ℤ). is_ahead (spatial c.args.p) (triangle_of t)) ts) =
+    count_from_yields_List c.filter.result c.count-ahead.result c.count-ahead.ensures.ran
+    (YieldsList-from_filter _ (λ (t : List ℤ). is_ahead (spatial c.args.p) (triangle_of t)) (YieldsList-at c.filter.ensures.source (YieldsList-from_slice ts cc)) c.filter.ensures.closure (λ x b q k. search (rules, tests))) in
+    ap is_odd counted ∙ odd_counted (spatial c.args.p) ts

@@ -1,21 +1,9 @@
 -- `kernel::meeting::flat_triangles_meet` meets its contract: the test is right on shapes that are not flat. Assumes nothing.
-use mathlib.Core.Path.{sym, subst, ◌∙◌}
-use mathlib.Core.Bool.{Bool}
+use Rattle.std.proofs.Common.{Bool, sym, subst, ◌∙◌}
 use Rattle.shape.specs.PlaneTest.{triangle_test}
 use Rattle.shape.proofs.PlaneTest.{triangle_test_law}
 use Rattle.kernel.specs.Meeting.{Judges}
-use Rattle.plane.proofs.PlaneLaws.{sized_triangle}
 use Rattle.kernel.proofs.meeting.flat_triangles_meet.Goals as goal
-
-pub plane_triangle-requires : goal.plane_triangle-requires
-plane_triangle-requires c = c.requires.0.ready
-
-pub plane_triangle-requires-2 : goal.plane_triangle-requires-2
-plane_triangle-requires-2 c = c.requires.1.ready
-
-pub planes_meet-requires : goal.planes_meet-requires
-planes_meet-requires c =
-    (sized_triangle c.requires.0.ready c.plane_triangle.ensures, sized_triangle c.requires.1.ready c.plane_triangle-2.ensures)
 
 pub returns : goal.returns
 returns c =

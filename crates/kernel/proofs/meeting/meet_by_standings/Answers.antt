@@ -14,13 +14,8 @@ returns-then-s-eq1 c =
     let stood = c.requires.3 in
     judged_within a.t.now a.u.now (stood.first c.if-r-eq1.false) c.if-s-eq1.true c.close_meet-then-s-eq1.ensures
 
-pub crossing-requires : goal.crossing-requires
-crossing-requires c =
-    let p = c.requires in
-    (p.0, p.1, (p.3.first c.if-r-eq1.false).number, p.3.second.number, p.2)
-
-pub returns : goal.returns
-returns c =
+pub returns-else-s-eq1 : goal.returns-else-s-eq1
+returns-else-s-eq1 c =
     let a = c.args in
     let stood = c.requires.3 in
     let r1 = c.if-r-eq1.false in

@@ -1,8 +1,9 @@
 -- `listing::writing::put_pairs` meets its contract: each turn writes what the next word tells. Assumes nothing.
 use mathlib.Core.Path.{◌≡◌, ap, subst, ◌∙◌}
 use mathlib.Core.List.{List, ◌++◌}
-use Prim.Native.Nat.{ℕ, suc, ◌+◌, ◌-◌, ◌*◌, ◌<◌}
+use Prim.Native.Nat.{ℕ, suc, ◌+◌, ◌-◌, ◌<◌}
 use native.Mathlib.Omega.{arith}
+use lib.ListN.{length}
 use Rattle.listing.specs.Pairs.{gathered, two_each}
 use Rattle.listing.specs.Writing.{told_by}
 use Rattle.listing.proofs.Filling.{Filling, filling_starts, length_free, room_for_more, filled_on, filling_ends}
@@ -32,41 +33,36 @@ next words end k {all} {before} {out} {at} h = subst (λ (l : List ℕ). Filling
 pub loop-k-init : goal.loop-k-init
 loop-k-init c =
     let a = c.args in
-    let all : a.n * 16 - 0 ≡ a.n * 16 = omega arith in
-    (omega arith, rw all (filling_starts (two_each (gathered (told_by a.words.now) 0 (a.n * 16))) a.out.now))
+    let all : length a.words.now - 0 ≡ length a.words.now = omega arith in
+    rw all (filling_starts (two_each (gathered (told_by a.words.now) 0 (length a.words.now))) a.out.now)
 
 pub put_word-at-requires : goal.put_word-at-requires
 put_word-at-requires c =
     let l = c.loop-k in
-    let a = c.args in
-    let words = a.words.now in
-    let f = next words (a.n * 16) l.k c.loop-k-test.true l.invariant.1 in
-    (omega arith, rw (length_free l.at l.out) (room_for_more (here words l.k) (later words (a.n * 16) l.k) f c.requires.2))
+    let words = c.args.words.now in
+    let f = next words (length words) l.k c.loop-k-test.true l.invariant in
+    (omega arith, rw (length_free l.at l.out) (room_for_more (here words l.k) (later words (length words) l.k) f c.requires.1))
 
 pub overflow_add-at : goal.overflow_add-at
 overflow_add-at c =
     let l = c.loop-k in
-    let a = c.args in
-    let words = a.words.now in
-    let f = next words (a.n * 16) l.k c.loop-k-test.true l.invariant.1 in
-    omega (arith, c.put_word-at.ensures.many, room_for_more (here words l.k) (later words (a.n * 16) l.k) f c.requires.2, l.invariant.1.inside)
+    let words = c.args.words.now in
+    let f = next words (length words) l.k c.loop-k-test.true l.invariant in
+    omega (arith, c.put_word-at.ensures.many, room_for_more (here words l.k) (later words (length words) l.k) f c.requires.1, l.invariant.inside)
 
 pub loop-k-preserved : goal.loop-k-preserved
 loop-k-preserved c =
     let l = c.loop-k in
-    let a = c.args in
-    let words = a.words.now in
-    let f = next words (a.n * 16) l.k c.loop-k-test.true l.invariant.1 in (
-      omega (arith, c.loop-k-test.true),
-      filled_on (here words l.k) (later words (a.n * 16) l.k) f c.requires.2 c.put_word-at.ensures,
-    )
+    let words = c.args.words.now in
+    let f = next words (length words) l.k c.loop-k-test.true l.invariant in
+    filled_on (here words l.k) (later words (length words) l.k) f c.requires.1 c.put_word-at.ensures
 
 pub returns : goal.returns
 returns c =
     let l = c.loop-k in
     let a = c.args in
     let told = told_by a.words.now in
-    let none : a.n * 16 - l.k ≡ 0 = omega (arith, l.invariant.0, c.loop-k-test.false) in
+    let none : length a.words.now - l.k ≡ 0 = omega (arith, c.loop-k-test.false) in
     filling_ends
-    (subst (λ (r : ℕ). Filling (two_each (gathered told 0 (a.n * 16))) a.out.now (two_each (gathered told l.k r)) l.out l.at) none
-    l.invariant.1)
+    (subst (λ (r : ℕ). Filling (two_each (gathered told 0 (length a.words.now))) a.out.now (two_each (gathered told l.k r)) l.out l.at) none
+    l.invariant)

@@ -5,8 +5,7 @@ use Prim.Native.Nat.{ℕ, ◌+◌, ◌<◌, ◌≤◌}
 use native.Mathlib.Numerals.{add-one}
 use native.Mathlib.Omega.{arith}
 use lib.ListN.{length, set, length-set}
-use Rattle.words.specs.Bits.{Lowest}
-use Rattle.words.proofs.LowestLaws.{rest_less, lowest_found}
+use Rattle.words.specs.Bits.{Takes}
 use Rattle.listing.specs.Pairs.{two_each}
 use Rattle.listing.specs.Writing.{word_pairs}
 use Rattle.listing.proofs.Filling.{Filling, filling_starts, room_for_more, filled_one_by_one, filling_ends}
@@ -14,10 +13,10 @@ use Rattle.listing.proofs.Telling.{next_pair, no_more}
 use Rattle.listing.proofs.writing.put_word.Invariants.{told}
 use Rattle.listing.proofs.writing.put_word.Goals as goal
 
-module _ {all before out : List ℕ} {at z word rest : ℕ} (i from : ℕ) (low : Lowest z word rest) (within : z < 64)
+module _ {all before out : List ℕ} {at z word rest : ℕ} (i from : ℕ) (step : Takes word z rest)
     (f : Filling all before (told i from word) out at) (fits : length all ≤ length before) where
   next : Filling all before (i ∷ (from + z) ∷ told i from rest) out at
-  next = subst (λ (l : List ℕ). Filling all before l out at) (ap two_each (next_pair low i from 64 within)) f
+  next = subst (λ (l : List ℕ). Filling all before l out at) (ap two_each (next_pair step.lowest i from 64 step.within)) f
 
   room : at + 1 < length out
   room = omega (arith, room_for_more (i ∷ (from + z) ∷ []) (told i from rest) next fits, f.inside)
@@ -25,35 +24,28 @@ module _ {all before out : List ℕ} {at z word rest : ℕ} (i from : ℕ) (low 
   written : Filling all before (told i from rest) (set (set out at i) (at + 1) (from + z)) (at + 2)
   written = rw add-one (filled_one_by_one (i ∷ (from + z) ∷ []) (told i from rest) next fits)
 
-pub loop-rest-init : goal.loop-rest-init
-loop-rest-init c =
+pub loop-z-init : goal.loop-z-init
+loop-z-init c =
     let a = c.args in
-    filling_starts (told a.i a.from a.word) a.out.now
+    rw c.into_iter-z-iterator.ensures.into_iter_gives (filling_starts (told a.i a.from a.word) a.out.now)
 
-pub bounds-out-at-in-loop-rest : goal.bounds-out-at-in-loop-rest
-bounds-out-at-in-loop-rest c =
-    let l = c.loop-rest in
+pub bounds-out-at-in-loop-z : goal.bounds-out-at-in-loop-z
+bounds-out-at-in-loop-z c =
     let a = c.args in
-    let low = lowest_found c.lowest_of.ensures.0 c.without_lowest-rest.ensures in
-    rw length-set (room a.i a.from low c.lowest_of.ensures.1 l.invariant c.requires.1)
+    rw length-set (room a.i a.from c.in-Some.ensures.steps c.loop-z.invariant c.requires.1)
 
 pub bounds-out-at : goal.bounds-out-at
-bounds-out-at c = omega (arith, simp length-set at (bounds-out-at-in-loop-rest c))
+bounds-out-at c = omega (arith, simp length-set at (bounds-out-at-in-loop-z c))
 
-pub loop-rest-smaller : goal.loop-rest-smaller
-loop-rest-smaller c = rest_less c.without_lowest-rest.ensures
-
-pub loop-rest-preserved : goal.loop-rest-preserved
-loop-rest-preserved c =
-    let l = c.loop-rest in
+pub loop-z-preserved : goal.loop-z-preserved
+loop-z-preserved c =
     let a = c.args in
-    let low = lowest_found c.lowest_of.ensures.0 c.without_lowest-rest.ensures in
-    written a.i a.from low c.lowest_of.ensures.1 l.invariant c.requires.1
+    written a.i a.from c.in-Some.ensures.steps c.loop-z.invariant c.requires.1
 
 pub returns : goal.returns
 returns c =
-    let l = c.loop-rest in
+    let l = c.loop-z in
     let a = c.args in
     let all = told a.i a.from a.word in
-    let none = ap (word_pairs a.i a.from 64) c.loop-rest-test.false ∙ no_more a.i a.from 64 in
+    let none = ap (word_pairs a.i a.from 64) c.in-None.ensures.steps.0 ∙ no_more a.i a.from 64 in
     filling_ends (subst (λ (r : List ℕ). Filling all a.out.now r l.out l.at) (ap two_each none) l.invariant)

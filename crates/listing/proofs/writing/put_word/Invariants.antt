@@ -9,9 +9,6 @@ use Rattle.listing.proofs.writing.put_word.Given as goal
 abbrev pub told : ℕ → ℕ → ℕ → List ℕ
 told i from word = two_each (word_pairs i from 64 word)
 
-abbrev pub invariant-loop-rest : goal.invariant-loop-rest
-invariant-loop-rest l =
-    Filling (told l.i l.from l.word) l.initial.out (told l.i l.from l.rest) l.out l.at
-
-abbrev pub decreases-loop-rest : goal.decreases-loop-rest
-decreases-loop-rest l = l.rest
+abbrev pub invariant-loop-z : goal.invariant-loop-z
+invariant-loop-z l =
+    Filling (told l.i l.from l.word) l.initial.out (told l.i l.from l.z-iterator.0) l.out l.at

@@ -15,5 +15,5 @@ returns c = record {
   parts = refl;
   count = none_clash 64;
   reach = refl;
-  journal = (λ i. replicate 32 (c.blank_entry-blank.ensures i)) ∙ sym (blanks 32);
+  journal = (λ i. replicate 32 (c.blank_entry.ensures i)) ∙ sym (blanks 32);
 }

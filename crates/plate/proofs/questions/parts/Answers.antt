@@ -1,33 +1,37 @@
 -- `plate::questions::parts` meets its contract: each way out tells what the checks of the two parts find there. Assumes nothing.
-use mathlib.Core.Path.{sym, ◌∙◌}
-use Rattle.plate.proofs.PartsLaws.{parts_7_first, parts_7_second, parts_10_first, parts_10_second, parts_told}
+use Rattle.std.proofs.Common.{◌≡◌, refl, rules}
+use Rattle.checks.specs.Told.{told_refusal}
+use Rattle.predicate.specs.Told.{told_verdict}
+use Rattle.plate.proofs.PartsLaws.{promised, by_checks}
 use Rattle.plate.proofs.questions.parts.Goals as goal
 
--- At each way out, a are the arguments; o is where both part numbers were tested, h where the first mark was looked for, k the second.
-pub returns-then-p-gt15 : goal.returns-then-p-gt15
-returns-then-p-gt15 c = let a = c.args in parts_7_first a.plate a.p a.q c.if-p-gt15.true c.no_part.ensures
+pub returns-in_err-part_checked : goal.returns-in_err-part_checked
+returns-in_err-part_checked c =
+    let is : told_verdict c.from_residual.result ≡ told_refusal c.in_err-part_checked.field-0.0 = search rules in
+    promised c.args.plate c.args.p c.args.q (λ S h. by_checks S _ _ c.in_err-part_checked.ensures refl refl refl is)
 
-pub returns-then-q-gt15 : goal.returns-then-q-gt15
-returns-then-q-gt15 c =
-    let a = c.args in
-    parts_7_second a.plate a.p a.q c.if-p-gt15.false c.if-q-gt15.true c.no_part-then-q-gt15.ensures
+pub returns-in_err-part_checked-2 : goal.returns-in_err-part_checked-2
+returns-in_err-part_checked-2 c =
+    let is : told_verdict c.from_residual-in_err-part_checked-2.result ≡ told_refusal c.in_err-part_checked-2.field-0.0 = search rules in
+    promised c.args.plate c.args.p c.args.q (λ S h. by_checks S _ _ c.in_ok-part_checked.ensures c.in_err-part_checked-2.ensures refl refl is)
 
-pub returns-then-not-has_mark : goal.returns-then-not-has_mark
-returns-then-not-has_mark c =
-    let a = c.args in
-    parts_10_first a.plate a.p a.q c.if-p-gt15.false c.if-q-gt15.false
-    (sym c.has_mark.ensures ∙ c.if-not-has_mark.true) c.no_part-then-not-has_mark.ensures
+pub returns-in_err-present_checked : goal.returns-in_err-present_checked
+returns-in_err-present_checked c =
+    let is : told_verdict c.from_residual-in_err-present_checked.result ≡ told_refusal c.in_err-present_checked.field-0.0 = search rules in
+    promised c.args.plate c.args.p c.args.q
+    (λ S h. by_checks S _ _ c.in_ok-part_checked.ensures c.in_ok-part_checked-2.ensures (c.in_err-present_checked.ensures S h.parts_are) refl is)
 
-pub returns-then-not-has_mark-2 : goal.returns-then-not-has_mark-2
-returns-then-not-has_mark-2 c =
-    let a = c.args in
-    parts_10_second a.plate a.p a.q c.if-p-gt15.false c.if-q-gt15.false
-    (sym c.has_mark.ensures ∙ c.if-not-has_mark.false)
-    (sym c.has_mark-2.ensures ∙ c.if-not-has_mark-2.true) c.no_part-then-not-has_mark-2.ensures
+pub returns-in_err-present_checked-2 : goal.returns-in_err-present_checked-2
+returns-in_err-present_checked-2 c =
+    let is : told_verdict c.from_residual-in_err-present_checked-2.result ≡ told_refusal c.in_err-present_checked-2.field-0.0 = search rules in
+    promised c.args.plate c.args.p c.args.q
+    (λ S h.
+    by_checks S _ _ c.in_ok-part_checked.ensures c.in_ok-part_checked-2.ensures (c.in_ok-present_checked.ensures S h.parts_are)
+    (c.in_err-present_checked-2.ensures S h.parts_are) is)
 
 pub returns : goal.returns
 returns c =
-    let a = c.args in
-    parts_told a.plate a.p a.q c.if-p-gt15.false c.if-q-gt15.false
-    (sym c.has_mark.ensures ∙ c.if-not-has_mark.false)
-    (sym c.has_mark-2.ensures ∙ c.if-not-has_mark-2.false) c.present_verdict.ensures
+    promised c.args.plate c.args.p c.args.q
+    (λ S h.
+    by_checks S _ _ c.in_ok-part_checked.ensures c.in_ok-part_checked-2.ensures (c.in_ok-present_checked.ensures S h.parts_are)
+    (c.in_ok-present_checked-2.ensures S h.parts_are) (c.present_verdict.ensures S h))

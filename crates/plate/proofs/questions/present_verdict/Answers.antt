@@ -1,30 +1,25 @@
 -- `plate::questions::present_verdict` meets its contract: the same part, the skins, and then the shells. Assumes nothing.
-use mathlib.Core.Path.{refl, sym, ◌∙◌}
+use Rattle.std.proofs.Common.{◌≡◌, true, false, sym, ap, ◌∙◌, subst, eq-eqb, ne_eqb}
 use native.Mathlib.Numerals.{add-one}
 use Rattle.slots.specs.Counting.{marks_strike}
+use Rattle.slots.specs.Showing.{Shown}
+use Rattle.slots.specs.declared.flat.Slots.{Slots}
 use Rattle.slots.proofs.Grids.{never_off}
-use Rattle.exact.proofs.Branches.{if_taken, if_left, if_equal, if_different}
 use Rattle.plate.proofs.questions.present_verdict.Goals as goal
 
 pub returns-then-p-q : goal.returns-then-p-q
-returns-then-p-q c = λ S h. if_equal _ _ _ refl c.if-p-q.true refl
+returns-then-p-q c = λ S h. rw (eq-eqb c.args.p c.args.q c.if-p-q.true)
 
 pub returns-then-marks_strike : goal.returns-then-marks_strike
 returns-then-marks_strike c = λ S h.
-    let a = c.args in
-    if_different _ _ _ refl c.if-p-q.false
-    (if_taken _ _ (c.marks_strike.ensures S h ∙ (λ k. marks_strike (add-one a.p k) (add-one a.q k) S)) c.if-marks_strike.true refl)
+    let skins = sym (c.marks_strike.ensures S h ∙ (λ k. marks_strike (add-one c.args.p k) (add-one c.args.q k) S)) ∙ c.if-marks_strike.true in
+    rw (ne_eqb c.args.p c.args.q c.if-p-q.false, skins)
 
-pub shells_verdict-requires : goal.shells_verdict-requires
-shells_verdict-requires c =
-    let s = c.requires in
-    (record { coords_long = s.0; on = sym c.all_on.ensures ∙ c.if-all_on.true; marks_long = s.1 }, s.2, s.3)
+pub returns-in-Some : goal.returns-in-Some
+returns-in-Some c = λ S h.
+    let skins = sym (c.marks_strike.ensures S h ∙ (λ k. marks_strike (add-one c.args.p k) (add-one c.args.q k) S)) ∙ c.if-marks_strike.false in
+    let on = subst (λ (s : Slots). Shown S s.coords s.marks) (sym c.in-Some.ensures) h in
+    rw (ne_eqb c.args.p c.args.q c.if-p-q.false, skins) (c.shells_verdict.ensures S on)
 
-pub returns-then-all_on : goal.returns-then-all_on
-returns-then-all_on c = λ S h.
-    let a = c.args in
-    if_different _ _ _ refl c.if-p-q.false
-    (if_left _ _ (c.marks_strike.ensures S h ∙ (λ k. marks_strike (add-one a.p k) (add-one a.q k) S)) c.if-marks_strike.false (c.shells_verdict.ensures S h))
-
-pub returns : goal.returns
-returns c = λ S h. absurd (never_off h (sym c.all_on.ensures ∙ c.if-all_on.false))
+pub returns-in-None : goal.returns-in-None
+returns-in-None c = λ S h. absurd (never_off h c.in-None.ensures)

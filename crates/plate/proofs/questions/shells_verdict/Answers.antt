@@ -1,40 +1,39 @@
 -- `plate::questions::shells_verdict` meets its contract: each way out tells what the shells and the corners of the two parts are found to be. Assumes nothing.
-use mathlib.Core.Path.{sym, ◌∙◌}
+use Rattle.std.proofs.Common.{◌≡◌, refl, ap, ◌∙◌, rules}
 use native.Mathlib.Numerals.{add-one}
+use Rattle.checks.specs.Answers.{served}
+use Rattle.checks.specs.Told.{told_refusal}
+use Rattle.predicate.specs.Told.{told_verdict}
 use Rattle.slots.proofs.Grids.{zeros_ready}
-use Rattle.plate.proofs.PartsLaws.{first_open, second_open, first_in, second_in}
+use Rattle.plate.specs.Deciding.{either_inside}
+use Rattle.plate.proofs.PartsLaws.{by_shells, front_gathered, front_on_grid}
 use Rattle.plate.proofs.questions.shells_verdict.Goals as goal
 
 pub gather_part-m-requires : goal.gather_part-m-requires
-gather_part-m-requires c = (c.requires.0, zeros_ready 576)
+gather_part-m-requires c = zeros_ready 576
 
 pub gather_part-n-requires : goal.gather_part-n-requires
-gather_part-n-requires c = (c.requires.0, zeros_ready 576)
+gather_part-n-requires c = zeros_ready 576
 
-pub returns-then-is_open : goal.returns-then-is_open
-returns-then-is_open c = λ S h.
-    let a = c.args in
-    let first = c.gather_part-m.ensures.is S a.p h (add-one a.p) in
-    let second = c.gather_part-n.ensures.is S a.q h (add-one a.q) in
-    c.no_part.ensures ∙ sym (first_open S a.p a.q first second c.is_open.ensures c.if-is_open.true)
+pub either_inside-requires : goal.either_inside-requires
+either_inside-requires c = (front_on_grid c.gather_part-m.ensures, front_on_grid c.gather_part-n.ensures)
 
-pub returns-then-is_open-2 : goal.returns-then-is_open-2
-returns-then-is_open-2 c = λ S h.
-    let a = c.args in
-    let first = c.gather_part-m.ensures.is S a.p h (add-one a.p) in
-    let second = c.gather_part-n.ensures.is S a.q h (add-one a.q) in
-    c.no_part-then-is_open-2.ensures ∙ sym (second_open S a.p a.q first second c.is_open.ensures c.if-is_open.false c.is_open-2.ensures c.if-is_open-2.true)
+pub returns-in_err-closed_checked : goal.returns-in_err-closed_checked
+returns-in_err-closed_checked c = λ S h.
+    let first = front_gathered c.gather_part-m.ensures S c.args.p h (add-one c.args.p) in
+    let is : told_verdict c.from_residual.result ≡ told_refusal c.in_err-closed_checked.field-0.0 = search rules in
+    by_shells S c.args.p c.args.q (c.in_err-closed_checked.ensures S first) refl is
 
-pub returns-then-corner_inside : goal.returns-then-corner_inside
-returns-then-corner_inside c = λ S h.
-    let a = c.args in
-    let first = c.gather_part-m.ensures.is S a.p h (add-one a.p) in
-    let second = c.gather_part-n.ensures.is S a.q h (add-one a.q) in
-    sym (first_in S a.p a.q first second c.is_open.ensures c.if-is_open.false c.is_open-2.ensures c.if-is_open-2.false c.corner_inside.ensures c.if-corner_inside.true)
+pub returns-in_err-closed_checked-2 : goal.returns-in_err-closed_checked-2
+returns-in_err-closed_checked-2 c = λ S h.
+    let first = front_gathered c.gather_part-m.ensures S c.args.p h (add-one c.args.p) in
+    let second = front_gathered c.gather_part-n.ensures S c.args.q h (add-one c.args.q) in
+    let is : told_verdict c.from_residual-in_err-closed_checked-2.result ≡ told_refusal c.in_err-closed_checked-2.field-0.0 = search rules in
+    by_shells S c.args.p c.args.q (c.in_ok-closed_checked.ensures S first) (c.in_err-closed_checked-2.ensures S second) is
 
 pub returns : goal.returns
 returns c = λ S h.
-    let a = c.args in
-    let first = c.gather_part-m.ensures.is S a.p h (add-one a.p) in
-    let second = c.gather_part-n.ensures.is S a.q h (add-one a.q) in
-    c.verdict_of.ensures ∙ sym (second_in S a.p a.q first second c.is_open.ensures c.if-is_open.false c.is_open-2.ensures c.if-is_open-2.false c.corner_inside.ensures c.if-corner_inside.false c.corner_inside-2.ensures)
+    let first = front_gathered c.gather_part-m.ensures S c.args.p h (add-one c.args.p) in
+    let second = front_gathered c.gather_part-n.ensures S c.args.q h (add-one c.args.q) in
+    by_shells S c.args.p c.args.q (c.in_ok-closed_checked.ensures S first) (c.in_ok-closed_checked-2.ensures S second)
+    (ap served (c.from.ensures ∙ c.either_inside.ensures ∙ (λ i. either_inside (first i) (second i))))

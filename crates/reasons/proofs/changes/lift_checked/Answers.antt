@@ -1,18 +1,13 @@
 -- `reasons::changes::lift_checked` meets its contract: 6 comes first, then 9. Assumes nothing.
-use mathlib.Core.Path.{sym, ◌∙◌}
-use Rattle.reasons.proofs.Orders.{marked, lift_refused, lift_6, lift_9, lift_fine}
+use Rattle.std.proofs.Common.{◌≡◌, refl, sym, ◌∙◌, rules}
+use Rattle.checks.specs.Told.{told_check, told_refusal}
+use Rattle.reasons.proofs.Finding.{lift_found}
 use Rattle.reasons.proofs.changes.lift_checked.Goals as goal
 
-pub returns-then-slot-gt63 : goal.returns-then-slot-gt63
-returns-then-slot-gt63 c = lift_refused c.no.ensures (λ S e. c.no.ensures ∙ sym (lift_6 S _ c.if-slot-gt63.true))
-
-pub returns-then-marks-slot-eq0 : goal.returns-then-marks-slot-eq0
-returns-then-marks-slot-eq0 c =
-    lift_refused c.no-then-marks-slot-eq0.ensures
-    (λ S e. c.no-then-marks-slot-eq0.ensures ∙ sym (lift_9 S _ c.if-slot-gt63.false (sym (marked S e _) ∙ c.if-marks-slot-eq0.true)))
+pub returns-in_err-slot_checked : goal.returns-in_err-slot_checked
+returns-in_err-slot_checked c =
+    let is : told_check c.from_residual.result ≡ told_refusal c.in_err-slot_checked.field-0.0 = search rules in
+    lift_found c.in_err-slot_checked.ensures (λ S e. is) (λ f. sym is ∙ f)
 
 pub returns : goal.returns
-returns c = record {
-  rule = λ S e. sym (lift_fine S _ c.if-slot-gt63.false (λ none. c.if-marks-slot-eq0.false (marked S e _ ∙ none)));
-  slot_is_within = λ e. c.if-slot-gt63.false;
-}
+returns c = lift_found c.in_ok-slot_checked.ensures c.filled_checked.ensures (λ f. refl)

@@ -1,35 +1,24 @@
--- `shells::closing::is_open` meets its contract: no triangle before i has an open edge. Assumes nothing.
-use mathlib.Core.Path.{◌≡◌, sym, ap, ◌∙◌}
-use Prim.Native.Nat.{ℕ}
-use native.Mathlib.Omega.{arith}
+-- `shells::closing::is_open` meets its contract: the triangles are asked in turn. Assumes nothing.
+use Rattle.std.proofs.Common.{◌≡◌, ◌∙◌, ◌/◌, Bool, List, not, ap, length, ℤ, rules, tests}
+use Rattle.std.specs.List.{list_any}
+use Rattle.std.proofs.lemmas.Iterator.{YieldsList-from_slice}
+use Rattle.std.proofs.lemmas.Iterator.Search.{any_from_yields_List}
+use Rattle.shape.specs.Points.{Shape}
 use Rattle.shape.specs.Lists.{some}
-use Rattle.shape.specs.TriangleLists.{triangles_in}
-use Rattle.shape.proofs.TriangleLists.{none_yet, none_more, some_here}
+use Rattle.shape.specs.Shells.{edges_of, is_closed}
+use Rattle.shape.specs.TriangleLists.{triangle_of, triangles_of}
+use Rattle.shape.proofs.TriangleLists.{any_some, chunks_hold}
+use Rattle.shells.specs.Opening.{edge_open}
 use Rattle.shells.proofs.Opening.{open_says}
-use borrow.Author.Rules.{rules}
-use Rattle.shells.proofs.closing.is_open.Invariants.{has_open}
 use Rattle.shells.proofs.closing.is_open.Goals as goal
-
-pub loop-i-init : goal.loop-i-init
-loop-i-init c =
-    let a = c.args in
-    (search rules, none_yet (has_open a.many a.numbers.now) a.numbers.now)
-
-pub returns-then-listed_open : goal.returns-then-listed_open
-returns-then-listed_open c =
-    let a = c.args in
-    let l = a.numbers.now in
-    sym (some_here (has_open a.many l) l c.loop-i.i a.many c.loop-i-test.true (sym c.listed_open.ensures ∙ c.if-listed_open.true))
-    ∙ open_says (triangles_in a.many l)
-
-pub loop-i-preserved : goal.loop-i-preserved
-loop-i-preserved c =
-    let a = c.args in
-    (search rules, none_more (has_open a.many a.numbers.now) a.numbers.now c.loop-i.i c.loop-i.invariant.1 (sym c.listed_open.ensures ∙ c.if-listed_open.false))
 
 pub returns : goal.returns
 returns c =
-    let a = c.args in
-    let l = a.numbers.now in
-    let end : c.loop-i.i ≡ a.many = omega (arith, c.loop-i-test.false, c.loop-i.invariant.0) in
-    sym (ap (λ (k : ℕ). some (has_open a.many l) (triangles_in k l)) (sym end) ∙ c.loop-i.invariant.1) ∙ open_says (triangles_in a.many l)
+    let ts = c.as_chunks.result.0.now in
+    let test : Shape → Bool = λ P. some (edge_open (triangles_of ts)) (edges_of P) in
+    let asked : c.any.result ≡ list_any (λ (t : List ℤ). test (triangle_of t)) ts =
+    any_from_yields_List (λ (t : List ℤ). test (triangle_of t)) _ _ c.any.result c.any.ensures.ran (YieldsList-from_slice ts cc) (λ x b q k. search (rules, tests)) in
+    asked
+    ∙ any_some triangle_of test ts
+    ∙ open_says (triangles_of ts)
+    ∙ ap (λ (Ps : List Shape). not (is_closed Ps)) (ap triangles_of c.as_chunks.ensures.front ∙ chunks_hold (length c.args.numbers.now / 9) c.args.numbers.now)

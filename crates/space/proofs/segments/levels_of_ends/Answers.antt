@@ -3,38 +3,28 @@ use mathlib.Core.Path.{◌∙◌}
 use Prim.Native.Nat.{◌+◌, ◌*◌}
 use native.Mathlib.Omega.{arith}
 use Rattle.exact.specs.Vectors.{spatial}
-use Rattle.exact.proofs.Branches.{bit≤}
 use Rattle.exact.proofs.LevelLaws.{estimate_told, level_from_first}
 use Rattle.space.proofs.SegmentLaws.{ends_told}
 use Rattle.space.proofs.segments.levels_of_ends.Goals as goal
 
-pub overflow_mul-result : goal.overflow_mul-result
-overflow_mul-result c = omega (arith, bit≤ c.is_above.result)
-
-pub overflow_mul-result-then-is_sure : goal.overflow_mul-result-then-is_sure
-overflow_mul-result-then-is_sure c = omega (arith, bit≤ c.is_above-then-is_sure.result)
-
-pub overflow_add-result : goal.overflow_add-result
-overflow_add-result c = omega (arith, bit≤ c.is_above.result, bit≤ c.is_above-then-is_sure.result)
-
 pub returns-then-is_sure : goal.returns-then-is_sure
 returns-then-is_sure c =
-    let pre = c.requires in
-    let t = pre.2 in
+    let a = c.args in
+    let t = a.t in
     ends_told
-    (estimate_told t.at_p t.at_q t.at_r pre.0 c.plane_at-plane.ensures c.rough_of-a.ensures c.rough_of.ensures c.estimate_of-x.ensures)
-    (estimate_told t.at_p t.at_q t.at_r pre.1 c.plane_at-plane.ensures c.rough_of-a.ensures c.rough_of-2.ensures c.estimate_of-y.ensures)
+    (estimate_told t.p.on_grid t.q.on_grid t.r.on_grid a.p.on_grid c.plane_at-plane.ensures c.rough_of-a.ensures c.rough_of.ensures c.estimate_of-x.ensures)
+    (estimate_told t.p.on_grid t.q.on_grid t.r.on_grid a.q.on_grid c.plane_at-plane.ensures c.rough_of-a.ensures c.rough_of-2.ensures c.estimate_of-y.ensures)
     c.is_sure.ensures
     c.is_sure-2.ensures
     c.if-is_sure.true
     c.is_above.ensures
     c.is_above-then-is_sure.ensures
 
-pub returns : goal.returns
-returns c =
+pub returns-else-is_sure : goal.returns-else-is_sure
+returns-else-is_sure c =
     let a = c.args in
     let at_p = c.level_over.ensures in
-    let at_q = c.level_over-2.ensures in
+    let at_q = c.level_over-else-is_sure.ensures in
     let is = c.normal_of-n.ensures.is in
     let i = at_p.0 ∙ level_from_first (spatial a.t.p) (spatial a.t.q) (spatial a.t.r) (spatial a.p) is in
     let j = at_q.0 ∙ level_from_first (spatial a.t.p) (spatial a.t.q) (spatial a.t.r) (spatial a.q) is in

@@ -7,12 +7,13 @@ use Rattle.space.proofs.segments.passes_no_edge.Goals as goal
 
 pub returns-then-is_sure : goal.returns-then-is_sure
 returns-then-is_sure c =
-    let pre = c.requires in
-    let t = pre.2 in
+    let p = c.args.p.on_grid in
+    let q = c.args.q.on_grid in
+    let t = c.args.t in
     past_told
-    (estimate_told pre.0 pre.1 t.at_p t.at_q c.plane_at-f.ensures c.rough_of-a.ensures c.rough_of.ensures c.estimate_of-x.ensures)
-    (estimate_told pre.0 pre.1 t.at_p t.at_r c.plane_at-f.ensures c.rough_of-a.ensures c.rough_of-2.ensures c.estimate_of-y.ensures)
-    (estimate_told pre.0 pre.1 t.at_q t.at_r c.plane_at-g.ensures c.rough_of-a.ensures c.rough_of-3.ensures c.estimate_of-z.ensures)
+    (estimate_told p q t.p.on_grid t.q.on_grid c.plane_at-f.ensures c.rough_of-a.ensures c.rough_of.ensures c.estimate_of-x.ensures)
+    (estimate_told p q t.p.on_grid t.r.on_grid c.plane_at-f.ensures c.rough_of-a.ensures c.rough_of-2.ensures c.estimate_of-y.ensures)
+    (estimate_told p q t.q.on_grid t.r.on_grid c.plane_at-g.ensures c.rough_of-a.ensures c.rough_of-3.ensures c.estimate_of-z.ensures)
     c.is_sure.ensures
     c.is_sure-2.ensures
     c.is_sure-3.ensures
@@ -21,47 +22,14 @@ returns-then-is_sure c =
     c.is_above.ensures
     c.is_below-then-is_sure.ensures
 
-pub normal_at-n-requires : goal.normal_at-n-requires
-normal_at-n-requires c =
-    let pre = c.requires in
-    (pre.0, pre.1, pre.2.at_q)
-
--- The two planes have the normals.
-pub level_over-i-requires : goal.level_over-i-requires
-level_over-i-requires c =
-    let pre = c.requires in (
-      pre.0,
-      c.normal_at-m.ensures.1,
-      pre.2.at_q,
-      record { b = _; c = _; sized_b = pre.1; sized_c = pre.2.at_p; is = c.plane_at-f.ensures; normal_is = c.normal_at-m.ensures.0 },
-    )
-
-pub level_over-j-requires : goal.level_over-j-requires
-level_over-j-requires c =
-    let pre = c.requires in (
-      pre.0,
-      c.normal_at-m.ensures.1,
-      pre.2.at_r,
-      record { b = _; c = _; sized_b = pre.1; sized_c = pre.2.at_p; is = c.plane_at-f.ensures; normal_is = c.normal_at-m.ensures.0 },
-    )
-
-pub level_over-k-requires : goal.level_over-k-requires
-level_over-k-requires c =
-    let pre = c.requires in (
-      pre.0,
-      c.normal_at-n.ensures.1,
-      pre.2.at_r,
-      record { b = _; c = _; sized_b = pre.1; sized_c = pre.2.at_q; is = c.plane_at-g.ensures; normal_is = c.normal_at-n.ensures.0 },
-    )
-
-pub returns : goal.returns
-returns c =
+pub returns-else-is_sure : goal.returns-else-is_sure
+returns-else-is_sure c =
     let a = c.args in
     let p = spatial a.p in
     let q = spatial a.q in
     let t = a.t in
-    let m_is = c.normal_at-m.ensures.0 in
+    let m_is = c.normal_at-m.ensures in
     past_by_levels p q (spatial t.p) (spatial t.q) (spatial t.r)
     (c.level_over-i.ensures.0 ∙ level_from_first p q (spatial t.p) (spatial t.q) m_is)
     (c.level_over-j.ensures.0 ∙ level_from_first p q (spatial t.p) (spatial t.r) m_is)
-    (c.level_over-k.ensures.0 ∙ level_from_first p q (spatial t.q) (spatial t.r) c.normal_at-n.ensures.0)
+    (c.level_over-k.ensures.0 ∙ level_from_first p q (spatial t.q) (spatial t.r) c.normal_at-n.ensures)

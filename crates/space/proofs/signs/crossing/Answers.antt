@@ -1,28 +1,7 @@
 -- `space::signs::crossing` meets its contract: the last signs of both triangles in their new orders. Assumes nothing.
 use mathlib.Core.Path.{◌∙◌}
-use Rattle.space.proofs.SpaceLaws.{sized_in_order, narrow_in_order, last_in_order}
+use Rattle.space.proofs.SpaceLaws.{last_in_order}
 use Rattle.space.proofs.signs.crossing.Goals as goal
-
-pub in_order-requires : goal.in_order-requires
-in_order-requires c =
-    let p = c.requires in
-    (p.0, p.2, p.3)
-
-pub in_order-requires-2 : goal.in_order-requires-2
-in_order-requires-2 c =
-    let p = c.requires in
-    (p.1, p.3, p.2)
-
-pub last_signs-requires : goal.last_signs-requires
-last_signs-requires c =
-    let a = c.args in (
-      sized_in_order a.s a.r a.t.now c.in_order.ensures c.requires.0,
-      sized_in_order a.r a.s a.u.now c.in_order-2.ensures c.requires.1,
-      λ flag. (
-        narrow_in_order a.s a.r a.t.now c.in_order.ensures (c.requires.4 flag).0,
-        narrow_in_order a.r a.s a.u.now c.in_order-2.ensures (c.requires.4 flag).1,
-      ),
-    )
 
 pub returns : goal.returns
 returns c =

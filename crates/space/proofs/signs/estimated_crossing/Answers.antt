@@ -2,23 +2,8 @@
 use mathlib.Core.Path.{subst}
 use mathlib.Core.Bool.{Bool}
 use Rattle.space.specs.Spaces.{Crosses}
-use Rattle.space.proofs.SpaceLaws.{sized_in_order, last_in_order}
+use Rattle.space.proofs.SpaceLaws.{last_in_order}
 use Rattle.space.proofs.signs.estimated_crossing.Goals as goal
-
-pub in_order-requires : goal.in_order-requires
-in_order-requires c =
-    let p = c.requires in
-    (p.0, p.2, p.3)
-
-pub in_order-requires-2 : goal.in_order-requires-2
-in_order-requires-2 c =
-    let p = c.requires in
-    (p.1, p.3, p.2)
-
-pub estimated_signs-requires : goal.estimated_signs-requires
-estimated_signs-requires c =
-    let a = c.args in
-    (sized_in_order a.s a.r a.t.now c.in_order.ensures c.requires.0, sized_in_order a.r a.s a.u.now c.in_order-2.ensures c.requires.1)
 
 pub returns : goal.returns
 returns c =

@@ -4,14 +4,11 @@ use Rattle.space.proofs.signs.last_signs.Goals as goal
 
 pub low_signs-requires : goal.low_signs-requires
 low_signs-requires c =
-    let p = c.requires in
-    let small = p.2 c.if-narrow.true in
+    let small = c.requires c.if-narrow.true in
     let t = small.0 in
     let u = small.1 in
-    let m-is = c.normal_at-m.ensures.0 in
-    let n-is = c.normal_at-n.ensures.0 in (
-      p.0,
-      p.1,
+    let m-is = c.normal_at-m.ensures in
+    let n-is = c.normal_at-n.ensures in (
       m-is,
       n-is,
       rw m-is (small_holds t.at_p t.at_q u.at_p u.at_p u.at_q),

@@ -10,6 +10,6 @@ pub returns : goal.returns
 returns c =
     let t = c.args.t in
     let u = c.args.u in
-    let one = c.low_level-one.ensures.0 c.requires.4 ∙ level_told (spatial t.p) (spatial t.q) (spatial u.p) (spatial u.q) c.requires.2 in
-    let two = c.low_level-two.ensures.0 c.requires.5 ∙ level_told (spatial t.p) (spatial t.r) (spatial u.r) (spatial u.p) c.requires.3 in
+    let one = c.low_level-one.ensures.0 c.requires.2 ∙ level_told (spatial t.p) (spatial t.q) (spatial u.p) (spatial u.q) c.requires.0 in
+    let two = c.low_level-two.ensures.0 c.requires.3 ∙ level_told (spatial t.p) (spatial t.r) (spatial u.r) (spatial u.p) c.requires.1 in
     neither (ap (λ (n : ℕ). eqb n 2) one) (ap (λ (n : ℕ). eqb n 2) two)

@@ -4,28 +4,12 @@ use Prim.Native.Nat.{◌+◌, ◌*◌}
 use native.Mathlib.Omega.{arith}
 use Rattle.exact.specs.Vectors.{spatial}
 use Rattle.exact.proofs.LevelLaws.{level_from_first}
-use Rattle.space.proofs.SpaceLaws.{plane_through}
 use Rattle.space.proofs.standings.exact_pattern.Goals as goal
-
-pub level_over-requires : goal.level_over-requires
-level_over-requires c =
-    let p = c.requires in
-    (p.1.at_p, p.2.small, p.0.at_p, plane_through p.1 p.2 p.3)
-
-pub level_over-requires-2 : goal.level_over-requires-2
-level_over-requires-2 c =
-    let p = c.requires in
-    (p.1.at_p, p.2.small, p.0.at_q, plane_through p.1 p.2 p.3)
-
-pub level_over-requires-3 : goal.level_over-requires-3
-level_over-requires-3 c =
-    let p = c.requires in
-    (p.1.at_p, p.2.small, p.0.at_r, plane_through p.1 p.2 p.3)
 
 pub returns : goal.returns
 returns c =
     let a = c.args in
-    let n = c.requires.2.is in
+    let n = c.requires.0.is in
     let over = level_from_first (spatial a.u.p) (spatial a.u.q) (spatial a.u.r) in
     let x = c.level_over.ensures.0 ∙ over (spatial a.t.p) n in
     let y = c.level_over-2.ensures.0 ∙ over (spatial a.t.q) n in

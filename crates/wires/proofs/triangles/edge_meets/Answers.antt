@@ -1,6 +1,5 @@
 -- `wires::triangles::edge_meets` meets its contract: edge by edge. Assumes nothing.
-use mathlib.Core.Path.{refl, ◌∙◌}
-use native.Mathlib.Omega.{arith}
+use Rattle.std.proofs.Common.{◌∙◌, arith}
 use Rattle.shape.specs.WireTest.{segment_triangle_test}
 use Rattle.exact.proofs.Branches.{if_taken, if_left}
 use Rattle.wires.proofs.SegmentEnds.{edge_ready, edge_of}
@@ -13,14 +12,14 @@ segment_meets_any-requires c =
 pub returns-then-segment_meets_any : goal.returns-then-segment_meets_any
 returns-then-segment_meets_any c =
     let a = c.args in
-    if_taken _ _ (c.segment_meets_any.ensures ∙ edge_of 0 a.t.now a.u.now segment_triangle_test) c.if-segment_meets_any.true refl
+    if_taken _ _ (c.segment_meets_any.ensures ∙ edge_of 0 a.t.now a.u.now segment_triangle_test) c.if-segment_meets_any.true c.if-segment_meets_any.true
 
-pub segment_meets_any-requires-2 : goal.segment_meets_any-requires-2
-segment_meets_any-requires-2 c =
+pub segment_meets_any-requires-else-segment_meets_any : goal.segment_meets_any-requires-else-segment_meets_any
+segment_meets_any-requires-else-segment_meets_any c =
     (edge_ready 3 c.args.t.now (omega arith) c.requires.0, c.requires.1)
 
-pub returns : goal.returns
-returns c =
+pub returns-else-segment_meets_any : goal.returns-else-segment_meets_any
+returns-else-segment_meets_any c =
     let a = c.args in
     if_left _ _ (c.segment_meets_any.ensures ∙ edge_of 0 a.t.now a.u.now segment_triangle_test) c.if-segment_meets_any.false
-    (c.segment_meets_any-2.ensures ∙ edge_of 3 a.t.now a.u.now segment_triangle_test)
+    (c.segment_meets_any-else-segment_meets_any.ensures ∙ edge_of 3 a.t.now a.u.now segment_triangle_test)

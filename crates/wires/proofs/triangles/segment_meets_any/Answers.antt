@@ -1,10 +1,7 @@
 -- `wires::triangles::segment_meets_any` meets its contract: the number of the ends tells which test decides. Assumes nothing.
-use mathlib.Core.Path.{◌∙◌}
-use Prim.Native.Nat.{◌/◌, ◌%◌}
-use native.Mathlib.Omega.{arith}
+use Rattle.std.proofs.Common.{◌/◌, ◌%◌, ◌∙◌}
 use lib.Dec.{ltb}
 use Rattle.shape.specs.Points.{point_at}
-use Rattle.exact.proofs.Branches.{bit≤}
 use Rattle.wires.proofs.SegmentEnds.{ends_beside, ends_level, ends_through, from_higher}
 use Rattle.wires.proofs.triangles.segment_meets_any.Goals as goal
 
@@ -20,18 +17,8 @@ returns-then-ends-eq4 c =
     let l = c.args.second.now in
     ends_level (point_at 3 0 k) (point_at 3 3 k) (point_at 3 0 l) (point_at 3 3 l) (point_at 3 6 l) c.ends_over-ends.ensures.0 c.if-ends-eq4.true c.level_segment_meets.ensures
 
-pub overflow_mul-high : goal.overflow_mul-high
-overflow_mul-high c =
-    let e = c.ends_over-ends.result in
-    omega (arith, bit≤ (ltb (e / 3) (e % 3)))
-
-pub passes-requires : goal.passes-requires
-passes-requires c =
-    let e = c.ends_over-ends.result in
-    (c.requires.0, c.requires.1, omega (arith, bit≤ (ltb (e / 3) (e % 3))))
-
-pub returns : goal.returns
-returns c =
+pub returns-else-ends-eq4 : goal.returns-else-ends-eq4
+returns-else-ends-eq4 c =
     let e = c.ends_over-ends.result in
     let k = c.args.first.now in
     let l = c.args.second.now in

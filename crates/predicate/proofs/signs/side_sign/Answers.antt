@@ -1,9 +1,0 @@
--- `predicate::signs::side_sign` meets its contract: it is the sign of what the value call answers.
--- Assumes nothing.
-use mathlib.Core.Path.{ap, ◌∙◌}
-use Rattle.shape.specs.Signs.{sign}
-use Rattle.checks.specs.Answers.{with_served}
-use Rattle.predicate.proofs.signs.side_sign.Goals as goal
-
-pub returns : goal.returns
-returns c = c.wide_signed.ensures ∙ ap (with_served sign) c.side_value.ensures.0
