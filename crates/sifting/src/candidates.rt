@@ -2,7 +2,7 @@
 ghost use Rattle.std.specs.Prelude.{◌≡◌, true, ℕ, ◌+◌, ◌*◌, ◌≤◌, ◌<◌, length, get_or};
 ghost use Rattle.boxes.specs.Boxes.{six};
 ghost use Rattle.sifting.specs.Ends.{Reaches};
-ghost use Rattle.sifting.specs.Tables.{Joined, Candidates, CandidatesBelow};
+ghost use Rattle.sifting.specs.Tables.{Joined, CandidatesBelow};
 
 use crate::bits::word_where;
 use crate::tables::Sieve;
