@@ -6,16 +6,18 @@ use Prim.Native.Nat.{ℕ, zero, suc, ◌+◌, ◌≤◌}
 use native.Mathlib.Omega.{arith}
 use borrow.Author.Tests.{ltb-true, ltb-false}
 use lib.Dec.{ltb}
-use lib.ListN.{length, length-drop, drop}
+use lib.ListN.{length, length-drop}
 use Rattle.slots.proofs.Clashing.{clashes_true}
 use Rattle.plate.specs.Histories.{Call}
-use Rattle.fields.specs.Fields.{head_of, body_of}
-use Rattle.fields.specs.declared.heads.Head.{Head}
-use Rattle.fields.specs.declared.heads.Head.TheVariants.{Ends, Broken, Whole}
+use Rattle.std.specs.Prelude.{Option, None, Some, Result, Ok, Err}
+use Rattle.checks.specs.Reasons.{number_of_reason}
+use Rattle.checks.specs.declared.answer.Reason.{Reason}
+use Rattle.fields.specs.declared.heads.Field.{Field}
+use Rattle.fields.specs.Fields.{head_of, behind}
 use Rattle.fields.proofs.Table.{none_left, head_exactly, whole_field}
-use Rattle.asking.specs.Calls.{call_of}
 use Rattle.lines.specs.Lines.{line_of}
-use Rattle.answering.specs.Sheets.{Lines, end, stop, field, longest, Output, long, read}
+use Rattle.answering.specs.Sheets
+use Rattle.answering.specs.Sheets.{call_in, Lines, end, stop, longest, Output, long, read}
 
 -- The bytes that are left have lines.
 pub record HasLines (before : List Call) (rest : List ℕ) : Type 0 where
@@ -24,13 +26,13 @@ pub record HasLines (before : List Call) (rest : List ℕ) : Type 0 where
 
 -- By what they begin with. A field takes three bytes at least, so what is left behind it is shorter.
 by_head : (more : ℕ) → ((before : List Call) (rest : List ℕ) → length rest ≤ more → HasLines before rest) →
-    (before : List Call) (rest : List ℕ) → length rest ≤ suc more → (h : Head) → head_of rest ≡ h → HasLines before rest
-by_head more later before rest few Ends e = record { text = []; is = end e }
-by_head more later before rest few (Broken number) e = record { text = line_of number _; is = stop e (clashes_true _) }
-by_head more later before rest few (Whole tag size) e =
+    (before : List Call) (rest : List ℕ) → length rest ≤ suc more → (h : Result (Option Field) Reason) → head_of rest ≡ h → HasLines before rest
+by_head more later before rest few (Ok None) e = record { text = []; is = end e }
+by_head more later before rest few (Err why) e = record { text = line_of (number_of_reason why) _; is = stop e (clashes_true _) }
+by_head more later before rest few (Ok (Some field)) e =
     let room = (whole_field rest e).room in
-    let left = later (call_of tag (body_of size rest) ∷ before) (drop (3 + size) rest) (omega (arith, room, few, length-drop (3 + size) rest)) in
-    record { text = _; is = field e (clashes_true _) left.is }
+    let left = later (call_in field rest ∷ before) (behind field.size rest) (omega (arith, room, few, length-drop (3 + field.size) rest)) in
+    record { text = _; is = Sheets.field e (clashes_true _) left.is }
 
 lines_exist : (most : ℕ) (before : List Call) (rest : List ℕ) → length rest ≤ most → HasLines before rest
 lines_exist zero before rest few = record { text = []; is = end ((head_exactly rest).0 (none_left (omega (arith, few)))) }

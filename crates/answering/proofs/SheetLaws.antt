@@ -1,24 +1,28 @@
 -- The lines of a sheet so far: with one field more, stopped at a broken field, or at the end. Assumes nothing.
 use mathlib.Core.Path.{◌≡◌, refl, sym, ap, ◌∙◌, subst}
 use mathlib.Core.List.{List, [], ◌∷◌, ◌++◌, append_assoc, append-nil}
-use Prim.Native.Nat.{ℕ, ◌+◌, ◌-◌, ◌*◌, ◌≤◌, ◌<◌}
+use Prim.Native.Nat.{ℕ, ◌+◌, ◌*◌, ◌≤◌, ◌<◌}
 use native.Mathlib.Omega.{arith}
 use lib.ListN.{length, length-append, length-drop, take, drop}
-use lib.Seq.{drop-drop, take_all, take_at, drop_at}
+use lib.Seq.{take_at, drop_at, length-take-le}
 use Rattle.checks.specs.Answers.{Answer, served, refused, number_of}
 use Rattle.checks.specs.Told.{told_check}
 use Rattle.plate.specs.Histories.{History, Call, outcome, next, run}
 use Rattle.plate.specs.Plates.{Stands, Answered, Promise}
 use Rattle.plate.specs.declared.calls.PlateAnswer.{PlateAnswer}
 use Rattle.keeping.specs.declared.plates.Plate.{Plate}
+use Rattle.fields.specs.Tags.{length_of}
 use Rattle.fields.specs.Fields.{head_of, body_of, behind}
-use Rattle.asking.specs.Calls.{call_of}
-use Rattle.fields.specs.declared.heads.Head.TheVariants.{Ends, Broken, Whole}
-use Rattle.fields.proofs.Table.{none_left, head_exactly, whole_field}
+use Rattle.std.specs.Prelude.{None, Some, Ok, Err}
+use Rattle.checks.specs.Reasons.{number_of_reason}
+use Rattle.checks.specs.declared.answer.Reason.{Reason}
+use Rattle.fields.specs.declared.heads.Field.{Field}
+use Rattle.fields.proofs.Table.{whole_field}
 use Rattle.lines.specs.Laid.{laid}
 use Rattle.lines.specs.Lines.{line_of}
 use Rattle.lines.proofs.LineLaws.{Put, put_more, length_laid, short_line}
-use Rattle.answering.specs.Sheets.{Lines, end, stop, field, Output, SheetText}
+use Rattle.answering.specs.Sheets
+use Rattle.answering.specs.Sheets.{call_in, Lines, end, stop, Output, SheetText}
 use Rattle.answering.specs.Steps.{FieldPut, LinesPut}
 use Rattle.answering.specs.declared.answer.Applied.{Applied}
 use Rattle.answering.proofs.Small.{small_number}
@@ -54,18 +58,14 @@ refused_put {plate} {c} {out} {place} ahead is put = record {
       };
 }
 
--- ---- parts of the sheet
-pub rest_at : (at : ℕ) (sheet : List ℕ) → take (length sheet - at) (drop at sheet) ≡ drop at sheet
-rest_at at sheet = take_all (length sheet - at) (drop at sheet) (omega (arith, length-drop at sheet))
-
-pub body_at : (at size : ℕ) (sheet : List ℕ) → take (at + 3 + size - (at + 3)) (drop (at + 3) sheet) ≡ body_of size (drop at sheet)
-body_at at size sheet =
-    let e : at + 3 + size - (at + 3) ≡ size = omega arith in
-    let d = sym (drop-drop 3 at sheet) in
-    (λ i. take (e i) (d i))
-
-behind_at : (at size : ℕ) (sheet : List ℕ) → drop (at + 3 + size) sheet ≡ behind size (drop at sheet)
-behind_at at size sheet = ap (λ (n : ℕ). drop n sheet) {x = at + 3 + size} {y = at + (3 + size)} (omega arith) ∙ sym (drop-drop (3 + size) at sheet)
+-- ---- texts in the buffer
+-- A line as it was put, by the number that it has.
+pub line_as : {out after : List ℕ} {at r n m : ℕ} (count : ℕ) → (r ≡ at + length (line_of n count)) × (after ≡ laid out at (line_of n count)) → n ≡ m →
+    Put out at (line_of m count) r after
+line_as {out} {at = at} count (place, is) e = record {
+  place = place ∙ ap (λ (k : ℕ). at + length (line_of k count)) e;
+  is = is ∙ ap (λ (k : ℕ). laid out at (line_of k count)) e;
+}
 
 -- A line that there is room for leaves the buffer's length.
 pub line_length : (buffer : List ℕ) (place : ℕ) (line : List ℕ) {after : List ℕ} → after ≡ laid buffer place line → place + length line ≤ length buffer →
@@ -83,36 +83,54 @@ answers {sheet} {text} {after} {r} before right size is =
       rest = ap (drop r) is ∙ drop_at text behind r (sym size) ∙ ap (λ (n : ℕ). drop n before) start;
     }
 
+-- ---- the field that is next
+-- Its body has the length of its tag, and less is left behind it.
+pub record Ahead (rest : List ℕ) (field : Field) (body after : List ℕ) : Type 0 where
+  pub some : 0 < length rest
+  pub has : body ≡ body_of field.size rest
+  pub leaves : after ≡ behind field.size rest
+  pub size : length body ≡ length_of field.tag
+  pub shorter : length after < length rest
+
+pub ahead : {rest : List ℕ} {field : Field} {body after : List ℕ} → head_of rest ≡ Ok (Some field) →
+    (body ≡ body_of field.size rest) × (after ≡ behind field.size rest) → Ahead rest field body after
+ahead {rest} {field} {body} {after} e (has, leaves) =
+    let whole = whole_field rest e in
+    record {
+      some = omega (arith, whole.room);
+      has = has;
+      leaves = leaves;
+      size = ap length has ∙ length-take-le field.size (drop 3 rest) (omega (arith, whole.room, length-drop 3 rest)) ∙ whole.fits;
+      shorter = omega (arith, ap length leaves, length-drop (3 + field.size) rest, whole.room);
+    }
+
 -- ---- the lines so far
-pub record Begun (sheet out : List ℕ) (plate : Plate) (at place : ℕ) (buffer : List ℕ) : Type 0 where
+pub record Begun (sheet out : List ℕ) (plate : Plate) (rest : List ℕ) (place : ℕ) (buffer : List ℕ) : Type 0 where
   pub calls : List Call
   pub text : List ℕ
   pub stands : Stands (run calls) plate
   pub put : Put out 0 text place buffer
   pub long : length buffer ≡ length out
-  pub inside : at ≤ length sheet
-  pub room : 3 * place ≤ 8 * at
-  pub lines : (more : List ℕ) → Lines calls (drop at sheet) more → Lines [] sheet (text ++ more)
+  pub room : 3 * place + 8 * length rest ≤ 8 * length sheet
+  pub lines : (more : List ℕ) → Lines calls rest more → Lines [] sheet (text ++ more)
 
-pub begun : (sheet out : List ℕ) {plate : Plate} → Stands (run []) plate → Begun sheet out plate 0 0 out
+pub begun : (sheet out : List ℕ) {plate : Plate} → Stands (run []) plate → Begun sheet out plate sheet 0 out
 begun sheet out st = record {
   calls = [];
   text = [];
   stands = st;
   put = record { place = refl; is = refl };
   long = refl;
-  inside = omega arith;
   room = omega arith;
   lines = λ more l. l;
 }
 
-module _ {sheet out : List ℕ} {plate : Plate} {at place : ℕ} {buffer : List ℕ} (b : Begun sheet out plate at place buffer) where
+module _ {sheet out : List ℕ} {plate : Plate} {rest : List ℕ} {place : ℕ} {buffer : List ℕ} (b : Begun sheet out plate rest place buffer) where
   -- One field more.
-  pub one_more : (tag size : ℕ) {r : Applied} {after : List ℕ} → head_of (drop at sheet) ≡ Whole tag size →
-      FieldPut plate (call_of tag (body_of size (drop at sheet))) buffer place r after →
-      place + 8 ≤ length buffer → Begun sheet out r.plate (at + 3 + size) r.end after
-  one_more tag size {r} {after} e put free =
-      let c = call_of tag (body_of size (drop at sheet)) in
+  pub one_more : (field : Field) {r : Applied} {left after : List ℕ} → head_of rest ≡ Ok (Some field) → left ≡ behind field.size rest →
+      FieldPut plate (call_in field rest) buffer place r after → place + 8 ≤ length buffer → Begun sheet out r.plate left r.end after
+  one_more field {r} {left} {after} e leaves put free =
+      let c = call_in field rest in
       let kept = put.kept b.calls b.stands in
       let number = number_of (outcome (run b.calls) c) in
       let line = line_of number r.plate.count in
@@ -123,27 +141,26 @@ module _ {sheet out : List ℕ} {plate : Plate} {at place : ℕ} {buffer : List 
         stands = kept.stands;
         put = put_more (omega arith) b.put (record { place = kept.place; is = kept.is });
         long = line_length buffer place line kept.is (omega (arith, short, free)) ∙ b.long;
-        inside = omega (arith, (whole_field (drop at sheet) e).room, length-drop at sheet, b.inside);
-        room = omega (arith, kept.place, b.room, short);
+        room = omega (arith, (whole_field rest e).room, ap length leaves, length-drop (3 + field.size) rest, kept.place, b.room, short);
         lines = λ more l.
             subst (Lines [] sheet) (sym (append_assoc b.text line more))
-            (b.lines (line ++ more) (field e kept.stands.count (subst (λ (s : List ℕ). Lines (c ∷ b.calls) s more) (behind_at at size sheet) l)));
+            (b.lines (line ++ more) (Sheets.field e kept.stands.count (subst (λ (s : List ℕ). Lines (c ∷ b.calls) s more) leaves l)));
       }
 
   -- A broken field: one line more, and no other.
-  pub stopped : (number : ℕ) {r : ℕ} {after : List ℕ} → head_of (drop at sheet) ≡ Broken number →
-      Put buffer place (line_of number plate.count) r after → LinesPut sheet out r after
-  stopped number e put =
+  pub stopped : (why : Reason) {r : ℕ} {after : List ℕ} → head_of rest ≡ Err why → Put buffer place (line_of (number_of_reason why) plate.count) r after →
+      LinesPut sheet out r after
+  stopped why e put =
       let all = put_more (omega arith) b.put put in
       record {
-        text = b.text ++ line_of number plate.count;
-        right = b.lines (line_of number plate.count) (stop e b.stands.count);
+        text = b.text ++ line_of (number_of_reason why) plate.count;
+        right = b.lines (line_of (number_of_reason why) plate.count) (stop e b.stands.count);
         size = omega (arith, all.place);
         leaves = all.is;
       }
 
   -- The end of the sheet.
-  pub ended : head_of (drop at sheet) ≡ Ends → LinesPut sheet out place buffer
+  pub ended : head_of rest ≡ Ok None → LinesPut sheet out place buffer
   ended e = record {
     text = b.text;
     right = subst (Lines [] sheet) (append-nil b.text) (b.lines [] (end e));
@@ -151,11 +168,6 @@ module _ {sheet out : List ℕ} {plate : Plate} {at place : ℕ} {buffer : List 
     leaves = b.put.is;
   }
 
-  pub all_read : length sheet ≤ at → LinesPut sheet out place buffer
-  all_read h = ended ((head_exactly (drop at sheet)).0 (none_left (omega (arith, h, length-drop at sheet))))
-
   -- Room for a line, where bytes are left.
-  pub room_for_line : at < length sheet → length sheet ≤ 65536 → 174768 ≤ length out → place + 8 ≤ length buffer
-  room_for_line h few long =
-      let fits : place + 8 ≤ length out = omega (arith, b.room) in
-      omega (arith, fits, b.long)
+  pub room_for_line : 0 < length rest → length sheet ≤ 65536 → 174768 ≤ length out → place + 8 ≤ length buffer
+  room_for_line h few long = omega (arith, b.room, b.long)

@@ -9,28 +9,27 @@ use Rattle.checks.specs.Answers.{number_of}
 use Rattle.slots.specs.Slots.{Clashes}
 use Rattle.slots.proofs.Clashing.{clashes_unique}
 use Rattle.plate.specs.Histories.{Call, slots_of, outcome, run}
-use Rattle.fields.specs.Fields.{body_of, behind}
-use Rattle.asking.specs.Calls.{call_of}
+use Rattle.checks.specs.Reasons.{number_of_reason}
+use Rattle.fields.specs.declared.heads.Field.{Field}
+use Rattle.fields.specs.Fields.{behind}
 use Rattle.lines.specs.Lines.{line_of}
-use Rattle.answering.specs.Sheets.{Lines, end, stop, field, longest, Output, long, read, SheetText}
+use Rattle.answering.specs.Sheets.{call_in, Lines, end, stop, field, longest, Output, long, read, SheetText}
 
 pub lines_unique : {before : List Call} {rest text text' : List ℕ} → Lines before rest text → Lines before rest text' → text ≡ text'
 lines_unique (end e) (end f) = refl
 lines_unique (end e) (stop f d) = let no : ◌≡◌ {A = ℕ} 0 1 = cc in absurd (omega arith)
 lines_unique (end e) (field f d m) = let no : ◌≡◌ {A = ℕ} 0 1 = cc in absurd (omega arith)
 lines_unique (stop e c) (end f) = let no : ◌≡◌ {A = ℕ} 0 1 = cc in absurd (omega arith)
-lines_unique (stop {number = n} e c) (stop {number = m} f d) =
-    let same : n ≡ m = cc in (λ i. line_of (same i) (clashes_unique c d i))
+lines_unique (stop {why = n} e c) (stop {why = m} f d) =
+    let same : n ≡ m = cc in (λ i. line_of (number_of_reason (same i)) (clashes_unique c d i))
 lines_unique (stop e c) (field f d m) = let no : ◌≡◌ {A = ℕ} 0 1 = cc in absurd (omega arith)
 lines_unique (field e c l) (end f) = let no : ◌≡◌ {A = ℕ} 0 1 = cc in absurd (omega arith)
 lines_unique (field e c l) (stop f d) = let no : ◌≡◌ {A = ℕ} 0 1 = cc in absurd (omega arith)
-lines_unique {before} {rest} (field {text = t} {tag = a} {size = s} {count = n} e c l) (field {text = u} {tag = b} {size = r} {count = m} f d k) =
-    let tags : a ≡ b = cc in
-    let sizes : s ≡ r = cc in
-    let call : call_of a (body_of s rest) ≡ call_of b (body_of r rest) = (λ i. call_of (tags i) (body_of (sizes i) rest)) in
+lines_unique {before} {rest} (field {text = t} {field = a} {count = n} e c l) (field {text = u} {field = b} {count = m} f d k) =
+    let fields : a ≡ b = cc in
+    let call : call_in a rest ≡ call_in b rest = ap (λ (x : Field). call_in x rest) fields in
     let count : n ≡ m = clashes_unique (subst (λ (x : Call). Clashes (slots_of (run (x ∷ before))) n) call c) d in
-    let later : t ≡ u = lines_unique (subst (λ (x : Call). Lines (x ∷ before) (behind r rest) t) call
-    (subst (λ (z : ℕ). Lines (call_of a (body_of s rest) ∷ before) (behind z rest) t) sizes l)) k in
+    let later : t ≡ u = lines_unique (subst (λ (x : Field). Lines (call_in x rest ∷ before) (behind x.size rest) t) fields l) k in
     (λ i. line_of (number_of (outcome (run before) (call i))) (count i) ++ later i)
 
 pub output_unique : {sheet text text' : List ℕ} → Output sheet text → Output sheet text' → text ≡ text'

@@ -1,9 +1,11 @@
 -- The call that a field of a job sheet asks for (document 02, Q-2).
-use Rattle.std.specs.Prelude.{cond, List, ℕ, eqb, get_or, drop}
+use Rattle.std.specs.Prelude.{List, ℕ, get_or, drop}
 use Rattle.shape.specs.Points.{coord}
 use Rattle.slots.specs.Changes.{Change, place, lift, shift}
 use Rattle.plate.specs.Histories.{Call, change, undo}
 use Rattle.packing.specs.Reading.{numbers_in}
+use Rattle.fields.specs.declared.tags.Tag.{Tag}
+use Rattle.fields.specs.declared.tags.Tag.TheVariants.{Place, Lift, Shift, Undo}
 
 -- Place: slot, part, nine numbers.
 abbrev pub place_in : List ℕ → Change
@@ -17,7 +19,9 @@ lift_in body = lift (get_or body 0 0)
 abbrev pub shift_in : List ℕ → Change
 shift_in body = let by = numbers_in 3 (drop 1 body) in shift (get_or body 0 0) (coord 0 by) (coord 1 by) (coord 2 by)
 
--- Tag 1 is a place, 2 a lift, 3 a shift, and 4 an undo.
-unfoldable pub call_of : (tag : ℕ) (body : List ℕ) → Call
-call_of tag body =
-    cond (eqb tag 1) (change (place_in body)) (cond (eqb tag 2) (change (lift_in body)) (cond (eqb tag 3) (change (shift_in body)) undo))
+-- What each tag asks for.
+unfoldable pub call_of : (tag : Tag) (body : List ℕ) → Call
+call_of Place body = change (place_in body)
+call_of Lift body = change (lift_in body)
+call_of Shift body = change (shift_in body)
+call_of Undo body = undo

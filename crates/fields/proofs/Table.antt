@@ -9,10 +9,14 @@ use native.Mathlib.Omega.{arith}
 use borrow.Author.Tests.{eqb-true, eqb-false, ltb-true, ltb-false}
 use lib.Dec.{eqb, ltb}
 use lib.ListN.{length, get_or}
-use Rattle.fields.specs.Fields.{tag_fits, size_of, head_of}
-use Rattle.fields.specs.declared.heads.Head.{Head}
-use Rattle.fields.specs.declared.heads.Head.TheVariants.{Ends, Broken, Whole}
-use Rattle.fields.proofs.FieldLaws.{at_end, cut_header, wrong, cut_body, whole}
+use Rattle.std.specs.Prelude.{Option, None, Some, Result, Ok, Err}
+use Rattle.checks.specs.declared.answer.Reason.{Reason}
+use Rattle.checks.specs.declared.answer.Reason.TheVariants.{UnknownField, CutField}
+use Rattle.fields.specs.declared.heads.Field.{Field}
+use Rattle.fields.specs.Tags.{number_of_tag, length_of, tag_numbered}
+use Rattle.fields.specs.Fields.{tag_fits, size_of, field_in, head_of}
+use Rattle.fields.proofs.FieldLaws
+use Rattle.fields.proofs.FieldLaws.{at_end, cut_header, cut_body, whole}
 
 -- ---- the table
 -- The tags, and the length that belongs to each.
@@ -27,17 +31,17 @@ abbrev pub Fitting : List ℕ → Type 0
 Fitting rest = TagLength (get_or rest 0 0) (size_of rest)
 
 -- What goes with the bytes that are left. Each case says that no fault before it is there, and so the first wins.
-pub data HeadCase (rest : List ℕ) : Head → Type 0 where
+pub data HeadCase (rest : List ℕ) : Result (Option Field) Reason → Type 0 where
   -- Nothing is left.
-  none_left : length rest ≡ 0 → HeadCase rest Ends
+  none_left : length rest ≡ 0 → HeadCase rest (Ok None)
   -- 14: the sheet ends inside the header.
-  header_ends : 0 < length rest → length rest < 3 → HeadCase rest (Broken 14)
+  header_ends : 0 < length rest → length rest < 3 → HeadCase rest (Err CutField)
   -- 13: unknown tag, or wrong length for the tag.
-  misfit : 3 ≤ length rest → (Fitting rest → ⊥) → HeadCase rest (Broken 13)
+  misfit : 3 ≤ length rest → (Fitting rest → ⊥) → HeadCase rest (Err UnknownField)
   -- 14: the sheet ends inside the body.
-  body_ends : 3 ≤ length rest → Fitting rest → length rest < 3 + size_of rest → HeadCase rest (Broken 14)
+  body_ends : 3 ≤ length rest → Fitting rest → length rest < 3 + size_of rest → HeadCase rest (Err CutField)
   -- A whole field.
-  all_there : 3 ≤ length rest → Fitting rest → 3 + size_of rest ≤ length rest → HeadCase rest (Whole (get_or rest 0 0) (size_of rest))
+  all_there : 3 ≤ length rest → Fitting rest → 3 + size_of rest ≤ length rest → HeadCase rest (Ok (Some (field_in rest)))
 
 -- ---- tags: the test in the rule, and its words
 tag_fits_law : {tag size : ℕ} → TagLength tag size → tag_fits tag size ≡ true
@@ -67,14 +71,29 @@ unfit tag size never = by_test (tag_fits tag size) refl
     by_test true e = absurd (never (fits_tag tag size e))
     by_test false e = refl
 
+-- The tag with the number has that number, and the length.
+number_law : {number size : ℕ} → TagLength number size → number ≡ number_of_tag (tag_numbered number)
+number_law place = refl
+number_law lift = refl
+number_law shift = refl
+number_law undo = refl
+
+length_law : {number size : ℕ} → TagLength number size → size ≡ length_of (tag_numbered number)
+length_law place = refl
+length_law lift = refl
+length_law shift = refl
+length_law undo = refl
+
 -- ---- the theorem
 module _ (rest : List ℕ) where
-  in_case : {h : Head} → HeadCase rest h → h ≡ head_of rest
+  in_case : {h : Result (Option Field) Reason} → HeadCase rest h → head_of rest ≡ h
   in_case (none_left e) = at_end rest e
   in_case (header_ends some few) = cut_header rest (λ e. omega (arith, e, some)) few
-  in_case (misfit header never) = wrong rest (λ e. omega (arith, e, header)) header (unfit (get_or rest 0 0) (size_of rest) never)
-  in_case (body_ends header fits few) = cut_body rest (λ e. omega (arith, e, header)) header (tag_fits_law fits) (omega (arith, few, header))
-  in_case (all_there header fits room) = whole rest (λ e. omega (arith, e, header)) header (tag_fits_law fits) (omega (arith, room))
+  in_case (misfit header never) = FieldLaws.misfit rest header (unfit (get_or rest 0 0) (size_of rest) never)
+  in_case (body_ends header fits few) =
+      cut_body rest (tag_numbered (get_or rest 0 0)) header (sym (number_law fits)) (length_law fits) (omega (arith, few, header))
+  in_case (all_there header fits room) =
+      whole rest (tag_numbered (get_or rest 0 0)) header (sym (number_law fits)) (length_law fits) (omega (arith, room))
 
   some_case : HeadCase rest (head_of rest)
   unfolding head_of
@@ -83,7 +102,7 @@ module _ (rest : List ℕ) where
     where
       cases : (a b c d : Bool) → eqb (length rest) 0 ≡ a → ltb (length rest) 3 ≡ b → tag_fits (get_or rest 0 0) (size_of rest) ≡ c →
           ltb (length rest - 3) (size_of rest) ≡ d →
-          HeadCase rest (cond a Ends (cond b (Broken 14) (cond c (cond d (Broken 14) (Whole (get_or rest 0 0) (size_of rest))) (Broken 13))))
+          HeadCase rest (cond a (Ok None) (cond b (Err CutField) (cond c (cond d (Err CutField) (Ok (Some (field_in rest)))) (Err UnknownField))))
       cases true b c d o p q r = none_left (eqb-true (length rest) 0 o)
       cases false true c d o p q r = header_ends (omega (arith, eqb-false (length rest) 0 o)) (ltb-true (length rest) 3 p)
       cases false false false d o p q r = misfit (ltb-false (length rest) 3 p) (λ fits. true≢false (sym (tag_fits_law fits) ∙ q))
@@ -92,30 +111,30 @@ module _ (rest : List ℕ) where
       cases false false true false o p q r =
           all_there (ltb-false (length rest) 3 p) (fits_tag _ _ q) (omega (arith, ltb-false (length rest - 3) (size_of rest) r, ltb-false (length rest) 3 p))
 
-  pub head_exactly : {h : Head} → HeadCase rest h ↔ (head_of rest ≡ h)
-  head_exactly = (λ c. sym (in_case c), λ e. subst (HeadCase rest) e some_case)
+  pub head_exactly : {h : Result (Option Field) Reason} → HeadCase rest h ↔ (head_of rest ≡ h)
+  head_exactly = (in_case, λ e. subst (HeadCase rest) e some_case)
 
--- ---- what follows
--- Of a whole field.
-pub record WholeField (rest : List ℕ) (tag size : ℕ) : Type 0 where
-  pub fits : tag_fits tag size ≡ true
-  pub room : 3 + size ≤ length rest
+-- ---- what follows of a whole field
+pub record WholeField (rest : List ℕ) (field : Field) : Type 0 where
+  pub number : get_or rest 0 0 ≡ number_of_tag field.tag
+  pub fits : field.size ≡ length_of field.tag
+  pub room : 3 + field.size ≤ length rest
 
-abbrev Known : List ℕ → Head → Type 0
-Known rest Ends = Unit {0}
-Known rest (Broken number) = number < 100
-Known rest (Whole tag size) = WholeField rest tag size
+abbrev Known : List ℕ → Result (Option Field) Reason → Type 0
+Known rest (Ok (Some field)) = WholeField rest field
+Known rest (Ok None) = Unit {0}
+Known rest (Err why) = 0 < length rest
 
-known : {rest : List ℕ} {h : Head} → HeadCase rest h → Known rest h
+known : {rest : List ℕ} {h : Result (Option Field) Reason} → HeadCase rest h → Known rest h
 known (none_left e) = tt
-known (header_ends some few) = omega arith
-known (misfit header never) = omega arith
-known (body_ends header fits few) = omega arith
-known (all_there header fits room) = record { fits = tag_fits_law fits; room = room }
+known (header_ends some few) = some
+known (misfit header never) = omega (arith, header)
+known (body_ends header fits few) = omega (arith, header)
+known (all_there header fits room) = record { number = number_law fits; fits = length_law fits; room = room }
 
-pub whole_field : (rest : List ℕ) {tag size : ℕ} → head_of rest ≡ Whole tag size → WholeField rest tag size
-whole_field rest {tag} {size} e = known ((head_exactly rest).1 e)
+pub whole_field : (rest : List ℕ) {field : Field} → head_of rest ≡ Ok (Some field) → WholeField rest field
+whole_field rest e = known ((head_exactly rest).1 e)
 
--- The number of a broken one has two digits.
-pub broken_number : (rest : List ℕ) {number : ℕ} → head_of rest ≡ Broken number → number < 100
-broken_number rest e = known ((head_exactly rest).1 e)
+-- ---- a broken one is not nothing
+pub broken_field : (rest : List ℕ) {why : Reason} → head_of rest ≡ Err why → 0 < length rest
+broken_field rest e = known ((head_exactly rest).1 e)

@@ -114,15 +114,6 @@ module _ {d : List ℕ} {at : ℕ} where
     is = q.is ∙ (λ i. laid (p.is i) (p.place i) b) ∙ laid_on d at a b h;
   }
 
-  pub put_length : {a : List ℕ} {r : ℕ} {out : List ℕ} → Put d at a r out → r ≤ length d → length out ≡ length d
-  put_length {a} p h = ap length p.is ∙ length_laid d at a (omega (arith, p.place))
-
-  -- There is still room for k bytes.
-  pub room_left : {a : List ℕ} {r : ℕ} {out : List ℕ} (k : ℕ) → Put d at a r out → at + length a + k ≤ length d → r + k ≤ length out
-  room_left {a} {r} {out} k p h =
-      let long = put_length p (omega (arith, p.place, h)) in
-      omega (arith, long, p.place, h)
-
   -- The four texts of a line.
   pub line_put : (number count : ℕ) {r : ℕ} {out : List ℕ} → Put d at (decimal number ++ (32 ∷ []) ++ decimal count ++ (10 ∷ [])) r out →
       Put d at (line_of number count) r out

@@ -1,43 +1,19 @@
 -- A number out of bytes that lie one after the other, and signed numbers by their bits. Assumes nothing.
-use mathlib.Core.Path.{◌≡◌, refl, sym, ap, ◌∙◌, subst}
+use mathlib.Core.Path.{◌≡◌, refl, ap, ◌∙◌}
 use mathlib.Core.Bool.{Bool, true, false, cond}
-use mathlib.Core.List.{List}
-use Prim.Native.Nat.{ℕ, zero, suc, ◌+◌, ◌-◌, ◌*◌, ◌≤◌, ◌<◌}
+use mathlib.Core.List.{List, [], ◌∷◌}
+use Prim.Native.Nat.{ℕ, zero, suc, ◌+◌, ◌-◌, ◌*◌, ◌/◌, ◌%◌, ◌<◌}
 use native.Mathlib.Omega.{arith}
-use borrow.Author.Tests.{lt-ltb, le-ltb}
+use borrow.Author.Tests.{lt-ltb}
 use lib.Dec.{ltb}
 use lib.IntN.{ℤ, pos, negsuc, ◌-ℤ◌}
-use lib.ListN.{length, get_or, take, drop}
-use lib.Seq.{drop-cons, drop-drop}
+use lib.ListN.{length, get_or, drop}
+use lib.Seq.{drop-drop}
 use mir.Syntax.{w32}
-use mir.Val.{SFits, sel, to_z, of_z}
-use mir.Facts.{to_z_pos}
-use Rattle.algebra.proofs.Machine.{returned, from_minus_one}
-use Rattle.packing.specs.Reading.{low_first, signed_of, number_in, numbers_in}
-use Rattle.packing.specs.Writing.{bits_of}
-
--- The first byte, and the number of those after it.
-byte_at : (l : List ℕ) (k at next : ℕ) → at < length l → next ≡ suc at →
-    low_first (take (suc k) (drop at l)) ≡ get_or l at 0 + 256 * low_first (take k (drop next l))
-byte_at l k at next h e =
-    ap (λ (r : List ℕ). low_first (take (suc k) r)) (drop-cons l at 0 h)
-    ∙ ap (λ (n : ℕ). get_or l at 0 + 256 * low_first (take k (drop n l))) (sym e)
-
-module _ (l : List ℕ) (at : ℕ) where
-  pub two_at : at + 2 ≤ length l → low_first (take 2 (drop at l)) ≡ get_or l at 0 + 256 * get_or l (at + 1) 0
-  two_at h =
-      omega (arith, byte_at l 1 at (at + 1) (omega arith) (omega arith), byte_at l 0 (at + 1) (at + 2) (omega arith) (omega arith))
-
-  pub four_at : at + 4 ≤ length l →
-      low_first (take 4 (drop at l)) ≡ get_or l at 0 + 256 * (get_or l (at + 1) 0 + 256 * (get_or l (at + 2) 0 + 256 * get_or l (at + 3) 0))
-  four_at h =
-      omega (
-        arith,
-        byte_at l 3 at (at + 1) (omega arith) (omega arith),
-        byte_at l 2 (at + 1) (at + 2) (omega arith) (omega arith),
-        byte_at l 1 (at + 2) (at + 3) (omega arith) (omega arith),
-        byte_at l 0 (at + 3) (at + 4) (omega arith) (omega arith),
-      )
+use mir.Val.{sel, to_z, of_z}
+use Rattle.packing.specs.Reading.{signed_of, number_in, numbers_in}
+use Rattle.std.specs.Int.{to_le_bytes}
+use Rattle.packing.specs.Writing.{spread, bits_of}
 
 -- The machine's reading of 32 bits is the definition's.
 same_pick : (b : Bool) (x y : ℤ) → sel b x y ≡ cond b x y
@@ -56,16 +32,15 @@ pub written_bits : (z : ℤ) → of_z w32 z ≡ bits_of z
 written_bits (pos n) = refl
 written_bits (negsuc m) = let e : 4294967296 - suc m ≡ 4294967295 - m = omega arith in e
 
--- ---- from 2^31 on: the bits that are left to 2^32 - 1, taken from -1
-module _ (n : ℕ) (high : 2147483648 ≤ n) (fits : n < 4294967296) where
-  value : negsuc 0 -ℤ to_z w32 (4294967295 - n) ≡ negsuc (4294967295 - n)
-  value = ap (λ (z : ℤ). negsuc 0 -ℤ z) (to_z_pos w32 {n = 4294967295 - n} (omega arith)) ∙ from_minus_one (4294967295 - n)
+-- The bytes that the machine makes of a number are those of its bits.
+le_spread : (n : ℕ) → to_le_bytes w32 n ≡ spread 4 n
+le_spread n =
+    let second : n / 65536 ≡ n / 256 / 256 = omega arith in
+    let third : n / 16777216 ≡ n / 256 / 256 / 256 = omega arith in
+    (λ i. n % 256 ∷ n / 256 % 256 ∷ second i % 256 ∷ third i % 256 ∷ [])
 
-  pub value_fits : SFits w32 (negsuc 0 -ℤ to_z w32 (4294967295 - n))
-  value_fits = subst (SFits w32) (sym value) (record { sfits = omega arith })
-
-  pub high_bits : to_z w32 (of_z w32 (negsuc 0 -ℤ to_z w32 (4294967295 - n))) ≡ signed_of n
-  high_bits = returned w32 value_fits.sfits (value ∙ below n fits ∙ sym (ap (λ (b : Bool). cond b (pos n) (pos n -ℤ pos 4294967296)) (le-ltb _ _ high)))
+pub written_bytes : (z : ℤ) → to_le_bytes w32 (of_z w32 z) ≡ spread 4 (bits_of z)
+written_bytes z = le_spread (of_z w32 z) ∙ ap (spread 4) (written_bits z)
 
 -- ---- numbers that lie one after the other
 pub length_numbers : (n : ℕ) (l : List ℕ) → length (numbers_in n l) ≡ n

@@ -4,5 +4,5 @@
 mod reading;
 mod writing;
 
-pub use reading::{byte_at, length_at, numbers_at};
+pub use reading::{array_at, byte_at, length_at, numbers_at};
 pub use writing::put_number;

@@ -1,13 +1,13 @@
 -- `answering::answer::answer_sheet` meets its contract: a sheet that is too long has one line, and any other its lines. Assumes nothing.
 use native.Mathlib.Omega.{arith}
-use Rattle.answering.proofs.SheetLaws.{answers}
+use Rattle.answering.proofs.SheetLaws.{line_as, answers}
 use Rattle.answering.specs.Sheets.{long, read}
 use Rattle.answering.proofs.answer.answer_sheet.Goals as goal
 
 pub returns-then-sheet-gt-LONGEST : goal.returns-then-sheet-gt-LONGEST
 returns-then-sheet-gt-LONGEST c =
-    let p = c.put_line.ensures in
-    answers c.args.out.now (long (omega arith)) (omega (arith, p.0)) p.1
+    let line = line_as {m = 15} 0 c.put_line.ensures c.number.ensures in
+    answers c.args.out.now (long (omega arith)) (omega (arith, line.place)) line.is
 
 pub returns : goal.returns
 returns c =

@@ -1,18 +1,15 @@
 -- `answering::answer::apply_field` meets its contract: the line has the number of the outcome and the true count. Assumes nothing.
-use mathlib.Core.Path.{sym, ap, ◌∙◌, subst}
+use mathlib.Core.Path.{sym, ◌∙◌, subst}
 use mathlib.Core.List.{◌∷◌}
-use Prim.Native.Nat.{ℕ, ◌+◌, ◌<◌}
-use lib.ListN.{length}
+use Prim.Native.Nat.{ℕ, ◌<◌}
 use Rattle.plate.specs.Histories.{run}
 use Rattle.asking.specs.Calls.{call_of}
-use Rattle.lines.specs.Laid.{laid}
-use Rattle.lines.specs.Lines.{line_of}
 use Rattle.answering.proofs.Small.{small_count, small_number}
-use Rattle.answering.proofs.SheetLaws.{call_told}
+use Rattle.answering.proofs.SheetLaws.{call_told, line_as}
 use Rattle.answering.proofs.answer.apply_field.Goals as goal
 
-pub put_line-next-requires : goal.put_line-next-requires
-put_line-next-requires c =
+pub put_line-end-requires : goal.put_line-end-requires
+put_line-end-requires c =
     let st = c.requires.0 in
     -- What the call told.
     let t = call_told c.apply-answer.result c.apply-answer.ensures st.calls st.stands in
@@ -28,10 +25,6 @@ returns c =
       kept = λ before st.
           -- What the call told, whatever calls made the plate.
           let t = call_told c.apply-answer.result c.apply-answer.ensures before st in
-          let is = c.number_of.ensures ∙ t.0 in
-          record {
-            stands = t.1;
-            place = c.put_line-next.ensures.0 ∙ ap (λ (k : ℕ). c.args.end + length (line_of k c.apply-answer.result.plate.count)) is;
-            is = c.put_line-next.ensures.1 ∙ ap (λ (k : ℕ). laid c.args.out.now c.args.end (line_of k c.apply-answer.result.plate.count)) is;
-          };
+          let line = line_as c.apply-answer.result.plate.count c.put_line-end.ensures (c.number_of.ensures ∙ t.0) in
+          record { stands = t.1; place = line.place; is = line.is };
     }

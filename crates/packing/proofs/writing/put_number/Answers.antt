@@ -1,18 +1,25 @@
--- `packing::writing::put_number` meets its contract: four stores. Assumes nothing.
-use mathlib.Core.Path.{◌≡◌, ap, ◌∙◌}
-use Prim.Native.Nat.{suc, ◌+◌, ◌/◌, ◌%◌}
+-- `packing::writing::put_number` meets its contract: the four bytes that the kit makes are the number's. Assumes nothing.
+use mathlib.Core.Path.{◌≡◌, refl, sym, ap, ◌∙◌}
+use Prim.Native.Nat.{◌+◌, ◌-◌}
 use native.Mathlib.Omega.{arith}
-use lib.ListN.{set}
+use mir.Syntax.{w32}
 use mir.Facts.{to_z-of_z}
-use Rattle.packing.specs.Writing.{bits_of}
+use Rattle.std.specs.Int.{to_le_bytes, cast_unsigned}
+use Rattle.std.proofs.lemmas.List.Edits.{sets-eq}
+use Rattle.std.proofs.lemmas.Slice.{put_mid-paste}
+use Rattle.packing.specs.Writing.{spread, bits_of}
+use Rattle.packing.proofs.ByteLaws.{written_bytes}
 use Rattle.packing.proofs.writing.put_number.Goals as goal
 
 pub returns : goal.returns
 returns c =
     let a = c.args in
-    let n = c.bits_of-n.ensures ∙ ap bits_of (to_z-of_z c.ranges.z) in
-    let e1 : a.at + 1 ≡ suc a.at = omega arith in
-    let e2 : a.at + 2 ≡ suc (suc a.at) = omega arith in
-    let e3 : a.at + 3 ≡ suc (suc (suc a.at)) = omega arith in
-    (λ i.
-    set (set (set (set a.out.now a.at (n i % 256)) (e1 i) (n i / 256 % 256)) (e2 i) (n i / 256 / 256 % 256)) (e3 i) (n i / 256 / 256 / 256 % 256))
+    let bytes = spread 4 (bits_of a.z) in
+    -- The bytes that were written are the number's.
+    let is : c.copy_from_slice.new.self ≡ bytes =
+    c.copy_from_slice.ensures.after
+    ∙ c.to_le_bytes.ensures
+    ∙ ap (λ z. to_le_bytes w32 (cast_unsigned w32 z)) (to_z-of_z c.ranges.z) ∙ written_bytes a.z in
+    put_mid-paste a.at (a.at + 4 - a.at) a.out.now c.copy_from_slice.new.self bytes 4 is
+    (omega arith) refl
+    ∙ sym (sets-eq bytes a.out.now a.at c.requires)
