@@ -1,9 +1,4 @@
 -- `answering::answer::answer_sheet` meets its contract: a sheet that is too long has one line, and any other its lines. Assumes nothing.
-use mathlib.Core.Path.{◌≡◌, ap, ◌∙◌}
-use Prim.Native.Nat.{ℕ}
-use lib.ListN.{length}
-use Rattle.lines.specs.Laid.{laid}
-use Rattle.lines.specs.Lines.{line_of}
 use native.Mathlib.Omega.{arith}
 use Rattle.answering.proofs.SheetLaws.{line_as, answers}
 use Rattle.answering.specs.Sheets.{long, read}

@@ -1,12 +1,9 @@
 -- `answering::answer::apply_field` meets its contract: the line has the number of the outcome and the true count. Assumes nothing.
-use mathlib.Core.Path.{sym, ap, ◌∙◌, subst}
+use mathlib.Core.Path.{sym, ◌∙◌, subst}
 use mathlib.Core.List.{◌∷◌}
-use Prim.Native.Nat.{ℕ, ◌+◌, ◌<◌}
-use lib.ListN.{length}
+use Prim.Native.Nat.{ℕ, ◌<◌}
 use Rattle.plate.specs.Histories.{run}
 use Rattle.asking.specs.Calls.{call_of}
-use Rattle.lines.specs.Laid.{laid}
-use Rattle.lines.specs.Lines.{line_of}
 use Rattle.answering.proofs.Small.{small_count, small_number}
 use Rattle.answering.proofs.SheetLaws.{call_told, line_as}
 use Rattle.answering.proofs.answer.apply_field.Goals as goal

@@ -1,10 +1,9 @@
 -- `answering::answer::write_lines` meets its contract: the lines so far are right, whatever lines follow them. Assumes nothing.
-use mathlib.Core.Path.{◌≡◌, refl, sym, ap, ◌∙◌, subst}
+use mathlib.Core.Path.{◌≡◌, sym, ap, ◌∙◌, subst}
 use mathlib.Core.List.{List}
-use Prim.Native.Nat.{ℕ, ◌+◌, ◌<◌}
+use Prim.Native.Nat.{ℕ}
 use borrow.Author.Rules.{rules}
 use native.Mathlib.Omega.{arith}
-use lib.ListN.{length}
 use Rattle.std.specs.Prelude.{Ok, Err}
 use Rattle.checks.specs.Answers.{number_of}
 use Rattle.checks.specs.Reasons.{number_of_reason}
@@ -14,11 +13,8 @@ use Rattle.plate.proofs.Outcomes.{shown}
 use Rattle.fields.specs.Fields.{head_of}
 use Rattle.fields.proofs.Table.{whole_field, broken_field}
 use Rattle.asking.specs.Calls.{call_of}
-use Rattle.lines.specs.Lines.{line_of}
-use Rattle.lines.specs.Laid.{laid}
-use Rattle.answering.specs.Sheets.{call_in}
 use Rattle.answering.specs.Steps.{FieldPut}
-use Rattle.answering.proofs.Small.{small_count, small_number, small_reason}
+use Rattle.answering.proofs.Small.{small_count, small_reason}
 use Rattle.answering.proofs.SheetLaws.{line_as, ahead, begun, one_more, refused_put, stopped, ended, room_for_line}
 use Rattle.answering.proofs.answer.write_lines.Goals as goal
 
@@ -77,7 +73,7 @@ pub put_line-end-requires : goal.put_line-end-requires
 put_line-end-requires c =
     let l = c.loop-field in
     let a = ahead (sym c.head_of.ensures ∙ c.in-Ok-Some.is ∙ ap Ok c.in-Ok-Some.field-0-is) c.body_and_behind.ensures in
-    (omega (arith, c.number-2.ensures, (small_reason c.in-Err-2.why.reason).1), small_count l.invariant.calls l.invariant.stands, room_for_line l.invariant a.some c.requires.0 c.requires.1)
+    (omega (arith, c.number-in-Err-field_checked.ensures, (small_reason c.in-Err-field_checked.why.reason).1), small_count l.invariant.calls l.invariant.stands, room_for_line l.invariant a.some c.requires.0 c.requires.1)
 
 pub loop-field-smaller : goal.loop-field-smaller
 loop-field-smaller c =
@@ -91,7 +87,7 @@ loop-field-preserved c =
     let a = ahead e c.body_and_behind.ensures in
     -- The number is that of the call's outcome, whatever calls made the plate.
     let told = λ (before : List Call) (st : Stands (run before) l.plate).
-    c.in-Err-2.ensures (run before) (shown before st).slots st.reach
+    c.in-Err-field_checked.ensures (run before) (shown before st).slots st.reach
     ∙ ap (λ (body : List ℕ). number_of (outcome (run before) (call_of field.tag body))) a.has in
-    let put = refused_put {number = number_of_reason c.in-Err-2.why.reason} (λ none. omega (arith, (small_reason c.in-Err-2.why.reason).0)) told (line_as l.plate.count c.put_line-end.ensures c.number-2.ensures) in
+    let put = refused_put {number = number_of_reason c.in-Err-field_checked.why.reason} (λ none. omega (arith, (small_reason c.in-Err-field_checked.why.reason).0)) told (line_as l.plate.count c.put_line-end.ensures c.number-in-Err-field_checked.ensures) in
     one_more l.invariant field e a.leaves put (room_for_line l.invariant a.some c.requires.0 c.requires.1)
