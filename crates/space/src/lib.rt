@@ -2,6 +2,7 @@
 // segment and a triangle the ends over the plane, the edges that it passes, and both in one plane. Crate `wires` puts those of a segment together, and
 // those in one plane, with the shapes that may be flat; crate `kernel` the standings and the last signs of two triangles, which crate `deciding` asks in
 // stages. The crate is the inside of the calls and offers none itself: what is off the grid is refused before a point of it is made.
+// Triangles come as lent lists of numbers, as document 01 has it, and each function says of its lists that they are ready.
 #![tactic(auto)]
 
 mod meeting;

@@ -1,5 +1,6 @@
 // How a triangle stands to the plane of another, by the three signs of its corners: exactly, by their low words where those tell them and else by the
-// estimate first; and by the estimate alone, which can't always tell.
+// estimate first; and by the estimate alone, which can't always tell. A triangle and its normal stay two, since the normal is kept as a row of numbers
+// that is no part of the triangle's list.
 ghost use Rattle.std.specs.Prelude.{◌≡◌, [], ◌∷◌, ◌≤◌, ◌<◌, length};
 ghost use Rattle.shape.specs.Signs.{row};
 ghost use Rattle.shape.specs.SpaceTest.{pattern};
@@ -33,9 +34,9 @@ fn exact_pattern(t: SpaceTriangle, u: SpaceTriangle, n: Normal, plane: Plane) ->
         + level_over(u.p, n, plane, t.r)
 }
 
-// The number of the standing that a pattern names, and no enum, since the places of the corners are computed from it without a branch: 0 beside, with all corners strictly on one side; 1 within, with all on the plane; or one corner is
-// alone on its side. Then it is 4 and the turns that put that corner first, and 4 more where the other triangle's last two corners have to be
-// swapped. A digit of the pattern is 0 for a corner below the plane, 1 on it, 2 above it, and the first corner's counts nine; beside each arm stands a
+// The number of the standing that a pattern names; it is no enum, since the places of the corners are computed from it without a branch. It is 0 beside,
+// with all corners strictly on one side; 1 within, with all on the plane; or one corner is alone on its side. Then it is 4 and the turns that put that
+// corner first, and 4 more where the other triangle's last two corners have to be swapped. A digit of the pattern is 0 for a corner below the plane, 1 on it, 2 above it, and the first corner's counts nine; beside each arm stands a
 // sign for each corner. Each pattern with a corner alone has an arm of its own, since the compiler makes a table of them so: numbers that stand side
 // by side in one arm become ranges, which it compares one after the other, and no processor guesses those branches. For the same reason there is an
 // arm for what is no pattern, with a number that no other arm gives: the table then holds every pattern.
