@@ -1,10 +1,11 @@
 -- What the functions between the arrays and the calls promise: one step on a plate.
-use Rattle.std.specs.Prelude.{◌≡◌, ℕ, suc, min, List, ◌∷◌, map, take, ℤ, slice_index_or, slice_set}
+use Rattle.std.specs.Prelude.{◌≡◌, ℕ, suc, ◌+◌, ◌-◌, ◌%◌, ◌^◌, min, List, ◌∷◌, map, take, ℤ, slice_index_or, slice_set}
 use Rattle.slots.specs.Slots.{Slot, free}
 use Rattle.slots.specs.Changes.{Change, shifted, apply}
 use Rattle.slots.specs.Arrays.{numbers_of, mark_of}
 use Rattle.slots.specs.Counting.{tally}
 use Rattle.slots.specs.Showing.{FitSlot, Fit, Shown}
+use Rattle.slots.specs.declared.flat.Slots.{Slots}
 use Rattle.keeping.specs.Journal.{slot_entry, entry_of}
 use Rattle.keeping.specs.declared.plates.Plate.{Plate}
 use Rattle.keeping.specs.declared.journal.Entry.{Entry}
@@ -16,6 +17,17 @@ pub record Shows (S : List Slot) (j : List Entry) (k : ℕ) (p : Plate) : Type 0
   pub journal : p.journal ≡ j
   pub reach : p.reach ≡ k
   pub count : p.count ≡ tally S
+
+-- The slots changed, and the count with them: counted is what is taken off before and put on after.
+pub record Recounted (p : Plate) (counted : Slots → ℕ → Type 0) (changed : Slots → Unit {0} → Slots → Type 0) (r : Plate) : Type 0 where
+  pub less : ℕ
+  pub more : ℕ
+  pub before : counted p.slots less
+  pub change : changed p.slots tt r.slots
+  pub after : counted r.slots more
+  pub count : r.count ≡ ((p.count + (2 ^ 32 - less)) % 2 ^ 32 + more) % 2 ^ 32
+  pub journal : r.journal ≡ p.journal
+  pub reach : r.reach ≡ p.reach
 
 -- A slot written, and the count with it.
 pub record Written (p : Plate) (s mark : ℕ) (numbers : List ℤ) (r : Plate) : Type 0 where

@@ -3,7 +3,8 @@
 // struct; on a plate that the calls made none does.
 ghost use Rattle.std.specs.Prelude.{◌≡◌, ◌<◌, length};
 ghost use Rattle.moving.specs.Moves.{steps};
-ghost use Rattle.keeping.specs.Steps.{Written, Nudged, Noted, Changed, Slid, Restored};
+ghost use Rattle.keeping.specs.Steps.{Written, Nudged, Noted, Changed, Slid, Restored, Recounted};
+ghost use Rattle.std.specs.Fn.{FnReturnsAt, FnOnceReturnsAtMut};
 
 use crate::journal::{Entry, pushed, raised};
 use slots::Slots;
@@ -16,15 +17,20 @@ pub struct Plate {
     pub count: u32,
 }
 
-// Writes a slot.
-fn written(plate: Plate, slot: usize, mark: u8, numbers: &[i32]) -> Plate
-    requires { (slot < 64) × (length numbers.now ≡ 9) }
-    ensures { Written plate slot mark numbers.now result }
+// The plate with its slots changed, and the count with them: what `clashes` counts is what the change touches.
+fn recounted<C: Fn(&Slots) -> u32, E: FnOnce(&mut Slots)>(
+    plate: Plate,
+    clashes: C,
+    change: E,
+) -> Plate
+    requires clashes { C.IsAlwaysCallable clashes }
+    requires change { E.IsAlwaysCallable change }
+    ensures { Recounted plate (FnReturnsAt C.Fn clashes) (FnOnceReturnsAtMut E.FnOnce change) result }
 {
     let mut slots = plate.slots;
-    let less = slots.slot_clashes(slot);
-    slots.write(slot, mark, numbers);
-    let more = slots.slot_clashes(slot);
+    let less = clashes(&slots);
+    change(&mut slots);
+    let more = clashes(&slots);
     let count = plate.count.wrapping_sub(less).wrapping_add(more);
     Plate {
         slots,
@@ -33,20 +39,27 @@ fn written(plate: Plate, slot: usize, mark: u8, numbers: &[i32]) -> Plate
     }
 }
 
+// Writes a slot.
+fn written(plate: Plate, slot: usize, mark: u8, numbers: &[i32]) -> Plate
+    requires { (slot < 64) × (length numbers.now ≡ 9) }
+    ensures { Written plate slot mark numbers.now result }
+{
+    recounted(
+        plate,
+        |slots| slots.slot_clashes(slot),
+        |slots| slots.write(slot, mark, numbers),
+    )
+}
+
 // Moves the slots of a mark.
 fn nudged(plate: Plate, mark: u8, by: &[i32; 9], back: bool) -> Plate
     ensures { Nudged plate mark (steps back by.now) result }
 {
-    let mut slots = plate.slots;
-    let less = slots.part_clashes(mark);
-    slots.move_part(mark, by, back);
-    let more = slots.part_clashes(mark);
-    let count = plate.count.wrapping_sub(less).wrapping_add(more);
-    Plate {
-        slots,
-        count,
-        ..plate
-    }
+    recounted(
+        plate,
+        |slots| slots.part_clashes(mark),
+        |slots| slots.move_part(mark, by, back),
+    )
 }
 
 // Notes an entry in the journal.
