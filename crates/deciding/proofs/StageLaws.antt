@@ -5,24 +5,19 @@ use mathlib.Core.List.{List}
 use Prim.Native.Nat.{ℕ, ◌+◌, ◌*◌, ◌^◌, ◌<◌}
 use native.Mathlib.Omega.{arith}
 use native.Mathlib.Decide.{ℕ_discrete}
-use borrow.Author.Tests.{ltb-true, ltb-false, ne_eqb}
-use lib.Dec.{eqb, ltb}
 use lib.IntN.{ℤ}
 use lib.ListN.{length, get_or, drop, set, length-set}
-use lib.Pow.{pow_pos}
 use lib.Seq.{get_or-set_same, get_or-set_other}
 use mir.Val.{bool_byte}
 use Rattle.exact.specs.Small.{narrow, Narrow, BothNarrow}
 use Rattle.exact.proofs.GridLaws.{small_taken, small_dropped}
-use Rattle.kernel.specs.Standings.{SeemToMeet}
 use Rattle.words.specs.Bits.{bit, Lowest, Takes}
 use Rattle.words.proofs.LowestLaws.{lowest_is_set, others_stay}
 use Rattle.words.proofs.BitLaws.{bit_of_none}
-use Rattle.words.proofs.Filling.{both, put, put_here, put_other, Filled, filled_starts, filled_on, filled_told}
+use Rattle.words.proofs.Filling.{both, Filled, filled_starts, filled_on, filled_told}
 use Rattle.boxes.specs.Triangles.{nine}
 use Rattle.deciding.specs.declared.verdicts.Stances.{Stances}
-use Rattle.deciding.specs.Places.{lined}
-use Rattle.deciding.specs.Stages.{Clear, Told, Marked, CrossedAt, Parted, Faced, Numbering}
+use Rattle.deciding.specs.Stages.{Told, Marked, Faced, Numbering}
 
 -- ---- the numbers of a part of a narrow list
 pub narrow_nine : (i : ℕ) (numbers : List ℤ) → Narrow numbers → Narrow (nine i numbers)

@@ -2,9 +2,7 @@
 // are set, and leaves fewer: no branch depends on what the triangles are like, which no processor guesses. The estimate is asked first, and what it
 // can't tell is asked exactly; or of small numbers all by their low words.
 ghost use Rattle.std.specs.Prelude.{◌≡◌, true, false, length, get_or};
-ghost use Rattle.words.specs.Bits.{bit};
-ghost use Rattle.exact.specs.Small.{Narrow};
-ghost use Rattle.deciding.specs.Places.{lined, Meant, Planed, Paired, Posed};
+ghost use Rattle.deciding.specs.Places.{Paired, Posed};
 ghost use Rattle.deciding.specs.Stages.{Clear, StandsAt, SeemsAt, Told, Marked, Parted, SortedAt, seems_alone, is_open, is_alone, is_within};
 
 use crate::places::{Left, Pairs};

@@ -34,6 +34,7 @@ fn is_untold(v: u32) -> bool
     1 < v
 }
 
+// What is asked at each place is written out in the loops, as in src/standings.rt.
 impl<'a> Stances<'a> {
     // The last two signs of the pair of a place, by the estimate.
     #[inline(always)]
@@ -64,7 +65,8 @@ impl<'a> Stances<'a> {
         )
     }
 
-    // Which of the pairs that are asked meet, by the estimate of their last two signs. What it can't tell goes to the others.
+    // Which of the pairs that are asked meet, by the estimate of their last two signs. What it can't tell goes to the others. Nobody reads the numbers, and
+    // the compiler keeps none.
     #[inline(always)]
     fn cross_by_estimate(&self, asked: u64, close: u64) -> Left
         requires { Numbering self.now asked × AllNumbered self.now asked × Clear asked close }
@@ -82,7 +84,7 @@ impl<'a> Stances<'a> {
         sort_places(&mut signs, asked, sorted, crossing, says_meeting, is_untold)
     }
 
-    // The verdicts on the pairs that are asked, beside those that are known.
+    // The verdicts on the pairs that are asked, beside those that are known. It keeps no number and fills one word, and so has its own loop.
     #[inline(always)]
     fn decide_rest(&self, asked: u64, known: u64) -> u64
         requires { Numbering self.now asked × AllStood self.now asked × Clear asked known }
