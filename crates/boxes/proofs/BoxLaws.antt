@@ -1,22 +1,24 @@
 -- Boxes: what the code reads of a list, the best of three numbers, and boxes that are apart, so that the triangles in them are. Assumes nothing.
 use mathlib.Core.Path.{◌≡◌, refl, sym, ap, subst, ◌∙◌}
 use mathlib.Core.Bool.{Bool, true, false, cond}
-use mathlib.Core.List.{List}
+use mathlib.Core.List.{List, [], ◌∷◌}
 use Prim.Native.Nat.{ℕ, zero, suc, ◌+◌, ◌^◌, ◌<◌}
 use native.Mathlib.Omega.{arith}
+use borrow.Author.Count.{below_more}
 use borrow.Author.Rules.{sfits_of}
 use lib.IntN.{ℤ, pos}
-use lib.ListN.{get_or}
+use lib.ListN.{length, set, length-set, get_or}
 use lib.Signed.{lt_z, mag, ◌≤ℤ◌, ◌<ℤ◌, ≤ℤ_refl, <ℤ-≤ℤ_trans}
 use mir.Syntax.{w32}
 use mir.Val.{to_z, of_z, hbits}
 use mir.Facts.{to_z-of_z}
+use Rattle.std.proofs.lemmas.List.{get_or-set_same, get_or-set_other}
 use Rattle.algebra.proofs.Order.{lt_true, lt_false, le_of_lt, ≤ℤ-trans}
 use Rattle.shape.specs.Points.{coord, point_at, points_at}
 use Rattle.shape.specs.Sharing.{Share}
 use Rattle.shape.proofs.Apart.{apart_along_law}
 use Rattle.shape.proofs.Weights.{Every}
-use Rattle.boxes.specs.Boxes.{smaller, larger, better, best_at, before}
+use Rattle.boxes.specs.Boxes.{smaller, larger, better, best_at, box_of}
 
 -- ---- numbers that the code reads
 -- A number of a list, stored in 32 bits and read back, is the number.
@@ -44,14 +46,15 @@ module _ (wins : ℤ → ℤ → Bool) (c : ℕ) (l : List ℤ) where
   abbrev z : ℤ
   z = get_or l (c + 6) (pos 0)
 
-  -- The better of the first two, and then the better of that and the third, each read where it stands.
-  pub best_read : {two r : ℤ} → Fits x → Fits y → Fits z → Fits two → Fits r →
-      two ≡ better wins (kept x) (kept y) → r ≡ better wins (kept two) (kept z) → kept r ≡ best_at wins c l
-  best_read {two} {r} f g h first last e d =
+  -- The better of the first two, and then the better of that and the third, each read where it stands, by an operation that gives the better.
+  pub best_read : (pick : ℤ → ℤ → ℤ) → ((x y : ℤ) → pick x y ≡ better wins x y) → {two r : ℤ} → Fits x → Fits y → Fits z → Fits two → Fits r →
+      two ≡ pick (kept x) (kept y) → r ≡ pick (kept two) (kept z) → kept r ≡ best_at wins c l
+  best_read pick is {two} {r} f g h first last e d =
       read r last
       ∙ d
-      ∙ (λ i. better wins (read two first i) (read z h i))
-      ∙ ap (λ (t : ℤ). better wins t z) (e ∙ (λ i. better wins (read x f i) (read y g i)))
+      ∙ (λ i. pick (read two first i) (read z h i))
+      ∙ is two z
+      ∙ ap (λ (t : ℤ). better wins t z) (e ∙ (λ i. pick (read x f i) (read y g i)) ∙ is x y)
 
 -- It is as good as each of them, by whatever order the test decides.
 module _ (R : ℤ → ℤ → Type 0) (wins : ℤ → ℤ → Bool) (reflexive : (x : ℤ) → R x x) (transitive : (x y z : ℤ) → R x y → R y z → R x z)
@@ -80,10 +83,48 @@ module _ (R : ℤ → ℤ → Type 0) (wins : ℤ → ℤ → Bool) (reflexive :
       let last = over_first two z in
       (transitive x two (better wins two z) (over_first x y) last, transitive y two (better wins two z) (over_second x y) last, over_second two z)
 
--- ---- one box before the other
-pub before_read : (c : ℕ) (first second : List ℤ) → Fits (get_or first (c + 3) (pos 0)) → Fits (get_or second c (pos 0)) →
-    lt_z (kept (get_or first (c + 3) (pos 0))) (kept (get_or second c (pos 0))) ≡ before c first second
-before_read c first second = read_same lt_z (get_or first (c + 3) (pos 0)) (get_or second c (pos 0))
+-- ---- the box that is written
+-- The least and the greatest coordinate k of the corners.
+pub record Bounded (bounds corners : List ℤ) (k : ℕ) : Type 0 where
+  pub least : get_or bounds k (pos 0) ≡ best_at smaller k corners
+  pub greatest : get_or bounds (k + 3) (pos 0) ≡ best_at larger k corners
+
+module _ {bounds corners : List ℤ} (long : length bounds ≡ 6) where
+  -- Those of one coordinate more.
+  pub bounded_more : {c : ℕ} {low high : ℤ} → c < 3 → low ≡ best_at smaller c corners → high ≡ best_at larger c corners →
+      ((k : ℕ) → k < c → Bounded bounds corners k) → (k : ℕ) → k < c + 1 → Bounded (set (set bounds c low) (c + 3) high) corners k
+  bounded_more {c} {low} {high} inside is_low is_high earlier =
+      below_more _ c
+      (λ k less. record { least = left k (omega arith) (omega arith) ∙ (earlier k less).least; greatest = left (k + 3) (omega arith) (omega arith) ∙ (earlier k less).greatest })
+      (record {
+        least = get_or-set_other low_put (c + 3) c high (pos 0) (omega arith) ∙ get_or-set_same bounds c low (pos 0) (omega arith) ∙ is_low;
+        greatest = get_or-set_same low_put (c + 3) high (pos 0) (omega (arith, length-set bounds c low)) ∙ is_high;
+      })
+    where
+      low_put : List ℤ
+      low_put = set bounds c low
+
+      left : (k : ℕ) → (k ≡ c → ⊥) → (k ≡ c + 3 → ⊥) → get_or (set low_put (c + 3) high) k (pos 0) ≡ get_or bounds k (pos 0)
+      left k f g = get_or-set_other low_put (c + 3) k high (pos 0) g ∙ get_or-set_other bounds c k low (pos 0) f
+
+  -- All six numbers.
+  pub all_bounded : ((k : ℕ) → k < 3 → Bounded bounds corners k) → bounds ≡ box_of corners
+  all_bounded each =
+      let x = each 0 (omega arith) in
+      let y = each 1 (omega arith) in
+      let z = each 2 (omega arith) in
+      are_all bounds long ∙ (λ i. x.least i ∷ y.least i ∷ z.least i ∷ x.greatest i ∷ y.greatest i ∷ z.greatest i ∷ [])
+    where
+      are_all : (l : List ℤ) → length l ≡ 6 →
+          l ≡ get_or l 0 (pos 0) ∷ get_or l 1 (pos 0) ∷ get_or l 2 (pos 0) ∷ get_or l 3 (pos 0) ∷ get_or l 4 (pos 0) ∷ get_or l 5 (pos 0) ∷ []
+      are_all [] h = absurd (omega arith)
+      are_all (a ∷ []) h = absurd (omega arith)
+      are_all (a ∷ b ∷ []) h = absurd (omega arith)
+      are_all (a ∷ b ∷ c ∷ []) h = absurd (omega arith)
+      are_all (a ∷ b ∷ c ∷ d ∷ []) h = absurd (omega arith)
+      are_all (a ∷ b ∷ c ∷ d ∷ e ∷ []) h = absurd (omega arith)
+      are_all (a ∷ b ∷ c ∷ d ∷ e ∷ f ∷ []) h = refl
+      are_all (a ∷ b ∷ c ∷ d ∷ e ∷ f ∷ g ∷ l) h = absurd (omega arith)
 
 -- ---- the best of three
 -- The least is at most each of the three, and the greatest at least.

@@ -6,5 +6,5 @@
 mod boxes;
 mod narrow;
 
-pub use boxes::{boxes_apart, put_boxes, put_normals, put_planes_unless};
+pub use boxes::{boxes_apart, put_boxes, put_normals, put_planes};
 pub use narrow::is_narrow;

@@ -4,13 +4,13 @@ ghost use Rattle.shape.specs.Verdicts.{Says};
 ghost use Rattle.exact.specs.Small.{narrow, Narrow};
 
 // The number `narrow` of crate `exact`'s specs/Small.antt.
-const NARROW: i32 = 524_288;
+const NARROW: u32 = 524_288;
 
 // Whether a number is.
 fn is_small(x: i32) -> bool
     ensures { Says result (nat_abs x ≤ narrow) }
 {
-    (-NARROW <= x) & (x <= NARROW)
+    x.unsigned_abs() <= NARROW
 }
 
 // Whether all numbers of a list are. No number ends the loop before its time: without an exit the compiler looks at
@@ -19,12 +19,8 @@ pub fn is_narrow(numbers: &[i32]) -> bool
     ensures { Says result (Narrow numbers.now) }
 {
     let mut narrow = true;
-    let mut i: usize = 0;
-    while i < numbers.len() {
-        if !is_small(numbers[i]) {
-            narrow = false;
-        }
-        i += 1;
+    for x in numbers {
+        narrow &= is_small(*x);
     }
     narrow
 }

@@ -30,7 +30,7 @@ pub fn all_on(numbers: &[i32]) -> bool
 }
 
 // The position of the lowest number off the grid.
-fn lowest_off(numbers: &[i32]) -> Option<usize>
+pub fn lowest_off(numbers: &[i32]) -> Option<usize>
     ensures { result ≡ position (λ z. not (on_grid z)) numbers.now }
 {
     numbers.iter().position(|z| off_grid(*z))

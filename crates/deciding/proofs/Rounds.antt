@@ -5,7 +5,7 @@ use mathlib.Core.List.{List}
 use mathlib.Core.Logic.{◌⊎◌, inl, inr}
 use Prim.Native.Nat.{ℕ, ◌<◌, ◌≤◌}
 use native.Mathlib.Omega.{arith}
-use borrow.Author.Tests.{eqb-true, eqb-false, ltb-true, ltb-false}
+use borrow.Author.Tests.{eqb-true, eqb-false, ltb-true, ltb-false, ne_eqb}
 use lib.Dec.{ltb}
 use lib.ListN.{get_or}
 use lib.Pow.{pow_pos}
@@ -18,7 +18,7 @@ use Rattle.words.proofs.Filling.{both}
 use Rattle.deciding.specs.declared.places.Pairs.{Pairs}
 use Rattle.deciding.specs.declared.verdicts.Stances.{Stances}
 use Rattle.deciding.specs.Places.{lined, Paired}
-use Rattle.deciding.specs.Stages.{Clear, StandsAt, SeemsAt, Told, Marked, seems_alone, is_open, is_alone, is_within, Parted, SortedAt, Numbering, AllNumbered, CrossedAt, AllAlone, AllStood, JudgedAt, Judged}
+use Rattle.deciding.specs.Stages.{Clear, StandsAt, SeemsAt, Told, Marked, seems_alone, is_open, is_alone, is_within, Parted, SortedAt, Numbering, AllNumbered, says_meeting, is_untold, Crossing, CrossedAt, AllAlone, AllStood, JudgedAt, Judged}
 
 -- Where a bit is set that was not, its place was asked.
 pub asked_for : {start asked word : ℕ} {Right : ℕ → Bool → Type 0} → Marked Right start asked word → (z : ℕ) → bit z word ≡ true → bit z start ≡ false →
@@ -144,6 +144,23 @@ module _ {p : Pairs} {asked close seen seemed : ℕ} {before between : List ℕ}
               (within.stays z e ∙ clear z set)
 
 -- ---- the verdicts
+-- What the estimate of the last signs says, as two bits.
+pub parted_crossing : {s : Stances} {asked close kept other : ℕ} {before after : List ℕ} → Told (Crossing s) asked before after →
+    Marked (λ z b. b ≡ says_meeting (get_or after z 0)) 0 asked kept → Marked (λ z b. b ≡ is_untold (get_or after z 0)) close asked other →
+    Parted (CrossedAt s) asked close kept other
+parted_crossing {s} {after = after} told meets not_told = record {
+  kept_small = λ n few. meets.small n (pow_pos n) few;
+  kept_none = λ z none. meets.stays z none ∙ bit_of_none z;
+  other_small = not_told.small;
+  other_stays = not_told.stays;
+  right = λ z set.
+      let v = get_or after z 0 in
+      record {
+        told = λ few. meets.right z set ∙ sym ((told.says z set).seems (omega (arith, ltb-false 1 v (sym (not_told.right z set) ∙ few))));
+        not_told = λ many. meets.right z set ∙ ne_eqb v 1 (λ e. omega (arith, ltb-true 1 v (sym (not_told.right z set) ∙ many)));
+      };
+}
+
 -- Pairs that each have a corner alone.
 module _ {s : Stances} {asked : ℕ} (alone : AllAlone s asked) where
   pub alone_stood : AllStood s asked

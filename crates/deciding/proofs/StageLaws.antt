@@ -5,24 +5,19 @@ use mathlib.Core.List.{List}
 use Prim.Native.Nat.{ℕ, ◌+◌, ◌*◌, ◌^◌, ◌<◌}
 use native.Mathlib.Omega.{arith}
 use native.Mathlib.Decide.{ℕ_discrete}
-use borrow.Author.Tests.{ltb-true, ltb-false, ne_eqb}
-use lib.Dec.{eqb, ltb}
 use lib.IntN.{ℤ}
 use lib.ListN.{length, get_or, drop, set, length-set}
-use lib.Pow.{pow_pos}
 use lib.Seq.{get_or-set_same, get_or-set_other}
 use mir.Val.{bool_byte}
 use Rattle.exact.specs.Small.{narrow, Narrow, BothNarrow}
 use Rattle.exact.proofs.GridLaws.{small_taken, small_dropped}
-use Rattle.kernel.specs.Standings.{SeemToMeet}
 use Rattle.words.specs.Bits.{bit, Lowest, Takes}
 use Rattle.words.proofs.LowestLaws.{lowest_is_set, others_stay}
 use Rattle.words.proofs.BitLaws.{bit_of_none}
-use Rattle.words.proofs.Filling.{both, put, put_here, put_other, Filled, filled_starts, filled_on, filled_told}
+use Rattle.words.proofs.Filling.{both, Filled, filled_starts, filled_on, filled_told}
 use Rattle.boxes.specs.Triangles.{nine}
 use Rattle.deciding.specs.declared.verdicts.Stances.{Stances}
-use Rattle.deciding.specs.Places.{lined}
-use Rattle.deciding.specs.Stages.{Clear, Told, Marked, CrossedAt, Parted, Faced, Numbering}
+use Rattle.deciding.specs.Stages.{Told, Marked, Faced, Numbering}
 
 -- ---- the numbers of a part of a narrow list
 pub narrow_nine : (i : ℕ) (numbers : List ℤ) → Narrow numbers → Narrow (nine i numbers)
@@ -99,62 +94,6 @@ sorting_ends so_far = (
   marked so_far.by_first,
   marked so_far.by_second,
 )
-
--- ---- two bits at each place
-pub record Parting (Right : ℕ → Bool → Bool → Type 0) (asked close left kept other : ℕ) : Type 0 where
-  pub by_kept : Filled (λ z b. Unit {0}) 0 asked left kept
-  pub by_other : Filled (λ z b. Unit {0}) close asked left other
-  pub right : (z : ℕ) → bit z asked ≡ true → bit z left ≡ false → Right z (bit z kept) (bit z other)
-
-pub parting_starts : {Right : ℕ → Bool → Bool → Type 0} {asked close : ℕ} → Clear asked close → Parting Right asked close asked 0 close
-parting_starts clear = record {
-  by_kept = filled_starts (λ z set. bit_of_none z);
-  by_other = filled_starts clear;
-  right = λ z set none. both set none;
-}
-
-pub parting_on : {Right : ℕ → Bool → Bool → Type 0} {asked close left next kept other z a b : ℕ} {v w : Bool} →
-    Parting Right asked close left kept other → Lowest z left next → Right z v w → a ≡ bool_byte v * 2 ^ z → b ≡ bool_byte w * 2 ^ z →
-    Parting Right asked close next (kept + a) (other + b)
-parting_on {Right} {asked} {close} {left} {next} {kept} {other} {z} {v = v} {w} so_far low this ea eb = rw (ea, eb) (record {
-  by_kept = filled_on {v = v} so_far.by_kept low tt;
-  by_other = filled_on {v = w} so_far.by_other low tt;
-  right = right;
-})
-  where
-    none_kept : bit z kept ≡ false
-    none_kept = so_far.by_kept.open_yet z (lowest_is_set low)
-
-    none_other : bit z other ≡ false
-    none_other = so_far.by_other.open_yet z (lowest_is_set low)
-
-    right : (y : ℕ) → bit y asked ≡ true → bit y next ≡ false → Right y (bit y (put z kept v)) (bit y (put z other w))
-    right y Asked-here clear = by_place (ℕ_discrete y z)
-      where
-        by_place : Dec (y ≡ z) → Right y (bit y (put z kept v)) (bit y (put z other w))
-        by_place (yes e) = rw (e, put_here z kept none_kept v, put_here z other none_other w) this
-        by_place (no apart) =
-            rw (put_other z kept none_kept v y apart, put_other z other none_other w y apart)
-            (so_far.right y Asked-here (sym (others_stay low y apart) ∙ clear))
-
-pub parting_ends : {Right : ℕ → Bool → Bool → Type 0} {asked close kept other : ℕ} → Parting Right asked close 0 kept other →
-    Parted Right asked close kept other
-parting_ends so_far = record {
-  kept_small = λ n few. so_far.by_kept.small n (pow_pos n) few;
-  kept_none = λ z none. so_far.by_kept.stays z none ∙ bit_of_none z;
-  other_small = so_far.by_other.small;
-  other_stays = so_far.by_other.stays;
-  right = λ z set. so_far.right z set (bit_of_none z);
-}
-
--- What the estimate of the last signs says, as two bits.
-pub crossed_at : {s : Stances} {z v : ℕ} →
-    SeemToMeet (lined s.pairs.first z) (lined s.pairs.second z) (get_or s.first.now z 0) (get_or s.second.now z 0) v →
-    CrossedAt s z (eqb v 1) (ltb 1 v)
-crossed_at {v = v} seems = record {
-  told = λ few. sym (seems (omega (arith, ltb-false 1 v few)));
-  not_told = λ many. ne_eqb v 1 (λ e. omega (arith, ltb-true 1 v many));
-}
 
 -- The pair of a place that is asked, and its numbers.
 pub faced : {s : Stances} {asked z : ℕ} → Numbering s asked → bit z asked ≡ true → z < 64 → Faced s z

@@ -5,7 +5,7 @@ use Rattle.shape.specs.Points.{points_at}
 use Rattle.shape.specs.Sharing.{Share}
 use Rattle.space.specs.Spaces.{Numbered, last_signs_by}
 use Rattle.kernel.specs.Meeting.{Judges}
-use Rattle.kernel.specs.Standings.{StandsTo, SeemsTo, Stood}
+use Rattle.kernel.specs.Standings.{StandsTo, SeemsTo, SeemToMeet, Stood}
 use Rattle.words.specs.Bits.{bit}
 use Rattle.deciding.specs.declared.places.Pairs.{Pairs}
 use Rattle.deciding.specs.declared.verdicts.Stances.{Stances}
@@ -84,6 +84,16 @@ NumberedAt s z = Numbered (get_or s.first.now z 0) × Numbered (get_or s.second.
 
 abbrev pub AllNumbered : Stances → (asked : ℕ) → Type 0
 AllNumbered s asked = (z : ℕ) → bit z asked ≡ true → NumberedAt s z
+
+-- What the last two signs of the pair of place z say by the estimate.
+pub record Crossing (s : Stances) (z v : ℕ) : Type 0 where
+  pub seems : SeemToMeet (lined s.pairs.first z) (lined s.pairs.second z) (get_or s.first.now z 0) (get_or s.second.now z 0) v
+
+abbrev pub says_meeting : ℕ → Bool
+says_meeting v = eqb v 1
+
+abbrev pub is_untold : ℕ → Bool
+is_untold v = ltb 1 v
 
 -- The two triangles of place z, whose standings are there by their numbers: one bit says whether the last two signs say that they
 -- meet, unless the other says that this is not told.

@@ -12,7 +12,7 @@ ghost use Rattle.deciding.specs.Words.{MayMeet, MayMeetBelow, Verdicts, Verdicts
 use crate::places::{Bed, Pairs, Row};
 use crate::standings::stand;
 use crate::verdicts::Stances;
-use boxes::{is_narrow, put_boxes, put_normals, put_planes_unless};
+use boxes::{is_narrow, put_boxes, put_normals, put_planes};
 use sifting::put_candidates;
 
 // Two lists of triangles, and whether all numbers of both are small.
@@ -102,12 +102,14 @@ pub fn decide_lists(first: &[i32], second: &[i32], words: &mut [u64]) -> u64
     let narrow = is_narrow(first) & is_narrow(second);
     let mut normals = [0i64; 3_072];
     put_normals(&mut normals, first);
-    let mut planes = [0.0f64; 3_072];
-    put_planes_unless(narrow, &mut planes, first);
     let mut others = [0i64; 3_072];
     put_normals(&mut others, second);
+    let mut planes = [0.0f64; 3_072];
     let mut rough = [0.0f64; 3_072];
-    put_planes_unless(narrow, &mut rough, second);
+    if !narrow {
+        put_planes(&mut planes, first);
+        put_planes(&mut rough, second);
+    }
     let lists = Lists {
         narrow,
         first: Bed {

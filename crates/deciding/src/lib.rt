@@ -4,6 +4,7 @@
 
 mod deciding;
 mod places;
+mod sorting;
 mod standings;
 mod verdicts;
 

@@ -1,15 +1,13 @@
 // The first two stages in which a word of candidates is decided: how each of two triangles stands to the other's plane. Each is a loop over the bits that
 // are set, and leaves fewer: no branch depends on what the triangles are like, which no processor guesses. The estimate is asked first, and what it
 // can't tell is asked exactly; or of small numbers all by their low words.
-ghost use Rattle.std.specs.Prelude.{◌≡◌, ℕ, true, false, ◌<◌, length, get_or};
-ghost use Rattle.words.specs.Bits.{bit};
-ghost use Rattle.exact.specs.Small.{Narrow};
-ghost use Rattle.deciding.specs.Places.{lined, Meant, Planed, Paired, Posed};
+ghost use Rattle.std.specs.Prelude.{◌≡◌, true, false, length, get_or};
+ghost use Rattle.deciding.specs.Places.{Paired, Posed};
 ghost use Rattle.deciding.specs.Stages.{Clear, StandsAt, SeemsAt, Told, Marked, Parted, SortedAt, seems_alone, is_open, is_alone, is_within};
 
 use crate::places::{Left, Pairs};
+use crate::sorting::sort_places;
 use kernel::{estimated_standing, exact_standing, low_standing};
-use words::{Bits, flag_at};
 
 // Whether a standing is told by the estimate, and a corner is alone.
 fn seems_alone(s: u32) -> bool
@@ -39,34 +37,8 @@ fn is_within(s: u32) -> bool
     s == 1
 }
 
-// The numbers at the places that are asked, beside the pairs that are sorted already: one test tells which are kept, another which go to the others.
-#[inline(always)]
-fn sort_places<A: Fn(u32) -> u32, K: Fn(u32) -> bool, O: Fn(u32) -> bool>(
-    standings: &mut [u32],
-    asked: u64,
-    sorted: Left,
-    ask: A,
-    is_kept: K,
-    is_other: O,
-) -> Left
-    requires long { length standings.old ≡ 64 }
-    requires clear { Clear asked sorted.kept × Clear asked sorted.other }
-    requires askable { (z : ℕ) → z < 64 → bit z asked ≡ true → A.pre ask z }
-    requires tests { K.IsAlwaysCallable is_kept × O.IsAlwaysCallable is_other }
-    ensures { Told (A.post ask) asked standings.old standings.new × Marked (λ z b. K.post is_kept (get_or standings.new z 0) b) sorted.kept asked result.kept × Marked (λ z b. O.post is_other (get_or standings.new z 0) b) sorted.other asked result.other }
-{
-    let mut kept = sorted.kept;
-    let mut other = sorted.other;
-    for z in Bits(asked) {
-        let s = ask(z);
-        standings[z as usize] = s;
-        kept += flag_at(is_kept(s), z);
-        other += flag_at(is_other(s), z);
-    }
-    Left { kept, other }
-}
-
 // The standings at the places that are asked, by the estimate.
+#[inline(always)]
 fn stand_by_estimate(pairs: &Pairs, standings: &mut [u32], asked: u64) -> Left
     requires { (length standings.old ≡ 64) × Posed pairs.now asked × (pairs.now.narrow ≡ false) }
     ensures { Told (SeemsAt pairs.now) asked standings.old standings.new × Marked (λ z b. b ≡ seems_alone (get_or standings.new z 0)) 0 asked result.kept × Marked (λ z b. b ≡ is_open (get_or standings.new z 0)) 0 asked result.other }
@@ -92,6 +64,7 @@ fn stand_by_estimate(pairs: &Pairs, standings: &mut [u32], asked: u64) -> Left
 }
 
 // The standings at the places that are asked, exactly: pairs with a corner alone go to those that are kept, and pairs in one plane to the others.
+#[inline(always)]
 fn stand_exactly(pairs: &Pairs, standings: &mut [u32], asked: u64, sorted: Left) -> Left
     requires { (length standings.old ≡ 64) × Posed pairs.now asked × (pairs.now.narrow ≡ false) × Clear asked sorted.kept × Clear asked sorted.other }
     ensures { Told (StandsAt pairs.now) asked standings.old standings.new × Marked (λ z b. b ≡ is_alone (get_or standings.new z 0)) sorted.kept asked result.kept × Marked (λ z b. b ≡ is_within (get_or standings.new z 0)) sorted.other asked result.other }
@@ -111,6 +84,7 @@ fn stand_exactly(pairs: &Pairs, standings: &mut [u32], asked: u64, sorted: Left)
 }
 
 // What `stand_exactly` gives, where all numbers are small: the estimate would not be worth asking.
+#[inline(always)]
 fn stand_low(pairs: &Pairs, standings: &mut [u32], asked: u64, sorted: Left) -> Left
     requires { (length standings.old ≡ 64) × Posed pairs.now asked × (pairs.now.narrow ≡ true) × Clear asked sorted.kept × Clear asked sorted.other }
     ensures { Told (StandsAt pairs.now) asked standings.old standings.new × Marked (λ z b. b ≡ is_alone (get_or standings.new z 0)) sorted.kept asked result.kept × Marked (λ z b. b ≡ is_within (get_or standings.new z 0)) sorted.other asked result.other }
@@ -129,8 +103,8 @@ fn stand_low(pairs: &Pairs, standings: &mut [u32], asked: u64, sorted: Left) -> 
 }
 
 // How the first triangle of each pair stands to the plane of the second, beside the pairs that are close already. Pairs with a corner alone are kept, and
-// pairs in one plane go to the others; what is neither is apart. It is asked for inline, like all that it calls here, because the compiler then has a loop
-// for each place that asks, in which it knows what stays the same.
+// pairs in one plane go to the others; what is neither is apart. It is written out where it is called, like all that it calls here: the compiler then has a
+// loop for each stage, in which it knows what stays the same, and tells flags apart without a branch.
 #[inline(always)]
 pub fn stand(pairs: &Pairs, standings: &mut [u32], asked: u64, close: u64) -> Left
     requires { (length standings.old ≡ 64) × Posed pairs.now asked × Clear asked close }

@@ -1,6 +1,6 @@
 // The exact arithmetic of the tests: points of the grid, the determinants of document 000 at them, their signs, and the levels that these tell, by an
-// estimate where it can tell them. The crate is the inside of the calls and offers none itself: its functions have a `requires`, but for those that only
-// look at a number or a normal, since what is off the grid is refused before one of them is asked.
+// estimate where it can tell them. The crate is the inside of the calls and offers none itself: what is off the grid is refused before one of its
+// functions is asked, and a point keeps that it lies there (src/points.rt).
 #![tactic(auto)]
 
 mod determinant;

@@ -5,12 +5,10 @@
 // heading. A is (0,0,0) (4,0,0) (0,4,0) in space and (0,0) (4,0) (0,4) in the plane. The grid ends at 1073741824 and -1073741824.
 #![tactic(auto)]
 
-ghost use Rattle.std.specs.Prelude.{◌≤◌};
-
 use plate::Plate;
-use printing::{Call, rows, say};
+use printing::{flat, list, pair, rows, segment, side, turn};
 use std::io;
-use stories::{fill, lift_row, parts_row, place_rows, say_plate, shift_row, undo_row, undo_times};
+use stories::{Standing, fill, lift_row, parts_rows, place_rows, shift_rows, undo_row, undo_times};
 
 // The end of the grid.
 const L: i32 = 1_073_741_824;
@@ -26,8 +24,8 @@ const ABOVE: [i32; 9] = [1, 1, 1, 2, 1, 1, 1, 2, 1];
 fn turns(rt: &impl Print) -> io::Result<()> {
     rows(
         rt,
-        Call::Turn,
-        b"Further rows of the turn\n\
+        turn,
+        "Further rows of the turn\n\
           to the right: 0 0 0 4 4 0\n\
           on a line: 0 0 2 2 5 5\n\
           equal points: 3 -1 3 -1 0 7\n\
@@ -46,8 +44,8 @@ fn turns(rt: &impl Print) -> io::Result<()> {
 fn sides(rt: &impl Print) -> io::Result<()> {
     rows(
         rt,
-        Call::Side,
-        b"Further rows of the side\n\
+        side,
+        "Further rows of the side\n\
           (0,0,0) (1,0,0) (0,1,0) (0,0,1): 0 0 0 1 0 0 0 1 0 0 0 1\n\
           in one plane: 0 0 0 1 0 0 0 1 0 5 7 0\n\
           all at an end of the grid: -1073741824 -1073741824 -1073741824 1073741824 -1073741824 -1073741824 -1073741824 -1073741824 1073741824 -1073741824 1073741824 -1073741824\n\
@@ -71,8 +69,8 @@ fn sides(rt: &impl Print) -> io::Result<()> {
 fn flats(rt: &impl Print) -> io::Result<()> {
     rows(
         rt,
-        Call::Flat,
-        b"Further rows of the flat test\n\
+        flat,
+        "Further rows of the flat test\n\
           A; A: 0 0 4 0 0 4; 0 0 4 0 0 4\n\
           one corner: 0 0 4 0 0 4; 4 0 5 0 5 1\n\
           one edge: 0 0 4 0 0 4; 0 0 4 0 0 -4\n\
@@ -98,8 +96,8 @@ fn flats(rt: &impl Print) -> io::Result<()> {
 fn pairs(rt: &impl Print) -> io::Result<()> {
     rows(
         rt,
-        Call::Pair,
-        b"Further rows of the test in space\n\
+        pair,
+        "Further rows of the test in space\n\
           a corner on the other's plane: 2 -2 3 1 1 3 2 4 -1; 2 1 1 -2 3 3 2 -3 -1\n\
           in one upright plane, one inside the other: 5 0 0 5 9 0 5 0 9; 5 1 1 5 2 1 5 1 2\n\
           in one upright plane, apart: 0 5 0 4 5 0 0 5 4; 3 5 3 5 5 3 3 5 5\n\
@@ -116,8 +114,8 @@ fn pairs(rt: &impl Print) -> io::Result<()> {
 fn wires_on_a_triangle(rt: &impl Print) -> io::Result<()> {
     rows(
         rt,
-        Call::Pair,
-        b"Points and wires against A\n\
+        pair,
+        "Points and wires against A\n\
           a point on a corner: 4 0 0 4 0 0 4 0 0; 0 0 0 4 0 0 0 4 0\n\
           a point on an edge: 2 2 0 2 2 0 2 2 0; 0 0 0 4 0 0 0 4 0\n\
           a point inside: 1 1 0 1 1 0 1 1 0; 0 0 0 4 0 0 0 4 0\n\
@@ -136,8 +134,8 @@ fn wires_on_a_triangle(rt: &impl Print) -> io::Result<()> {
 fn wires_and_points(rt: &impl Print) -> io::Result<()> {
     rows(
         rt,
-        Call::Pair,
-        b"Points and wires against each other\n\
+        pair,
+        "Points and wires against each other\n\
           equal points: 5 -7 3 5 -7 3 5 -7 3; 5 -7 3 5 -7 3 5 -7 3\n\
           points one step apart: 5 -7 3 5 -7 3 5 -7 3; 5 -7 4 5 -7 4 5 -7 4\n\
           a point on a wire: 2 2 2 2 2 2 2 2 2; 0 0 0 4 4 4 1 1 1\n\
@@ -159,8 +157,8 @@ fn wires_and_points(rt: &impl Print) -> io::Result<()> {
 fn segments(rt: &impl Print) -> io::Result<()> {
     rows(
         rt,
-        Call::Segment,
-        b"Further rows of the segment test\n\
+        segment,
+        "Further rows of the segment test\n\
           through A: 1 1 -1 1 1 1; 0 0 0 4 0 0 0 4 0\n\
           past A: 3 3 -1 3 3 1; 0 0 0 4 0 0 0 4 0\n\
           ending on an edge of A: 2 2 5 2 2 0; 0 0 0 4 0 0 0 4 0\n\
@@ -180,8 +178,8 @@ fn segments(rt: &impl Print) -> io::Result<()> {
 fn lists(rt: &impl Print) -> io::Result<()> {
     rows(
         rt,
-        Call::List,
-        b"Further rows of the listing\n\
+        list,
+        "Further rows of the listing\n\
           no triangles, start 7: ; ; 7\n\
           no triangles, start 8: ; ; 8\n\
           one list empty: 0 0 0 4 0 0 0 4 0 1 1 1 2 1 1 1 2 1; ; 0\n\
@@ -202,24 +200,20 @@ fn lists(rt: &impl Print) -> io::Result<()> {
 
 // The reach below its end, and the most clashes that a plate can have.
 fn changes(rt: &impl Print) -> io::Result<()> {
-    say(
-        rt,
-        b"Further changes of the plate\n40 changes, 5 undos, 3 changes: ",
-    )?;
-    let filled = fill(plate::empty(), 0, 40);
-    let left = undo_times(filled, 5);
-    say_plate(rt, fill(left, 35, 38))?;
-    say(rt, b"all 64 slots filled, 4 as each part: ")?;
-    say_plate(rt, fill(plate::empty(), 0, 64))
+    let left = undo_times(fill(plate::empty(), 0..40), 5);
+    let changed = Standing::of(fill(left, 35..38));
+    println!(rt; "Further changes of the plate\n40 changes, 5 undos, 3 changes: {changed}")?;
+    let filled = Standing::of(fill(plate::empty(), 0..64));
+    println!(rt; "all 64 slots filled, 4 as each part: {filled}")
 }
 
 // What place refuses for the slot and the part. After its colon a row has the slot and the part, then the triangle.
 fn place_number_refusals(rt: &impl Print) -> io::Result<Plate> {
-    say(rt, b"Further rows of place\n")?;
+    rt.println("Further rows of place")?;
     place_rows(
         rt,
         plate::empty(),
-        b"A in slot 63 as part 15: 63 15; 0 0 0 4 0 0 0 4 0\n\
+        "A in slot 63 as part 15: 63 15; 0 0 0 4 0 0 0 4 0\n\
           slot 64, part 16, 8 numbers: 64 16; 0 0 0 4 0 0 0 4\n\
           slot 2^64 - 1: 18446744073709551615 0; 0 0 0 4 0 0 0 4 0\n\
           a filled slot, part 16, 8 numbers: 63 16; 0 0 0 4 0 0 0 4\n\
@@ -232,7 +226,7 @@ fn place_list_refusals(rt: &impl Print, plate: Plate) -> io::Result<()> {
     place_rows(
         rt,
         plate,
-        b"a filled slot, no numbers: 63 0;\n\
+        "a filled slot, no numbers: 63 0;\n\
           a filled slot, 10 numbers, the first off the grid: 63 0; 1073741825 0 0 4 0 0 0 4 0 0\n\
           a filled slot, flat, positions 3 and 6 off the grid: 63 0; 0 0 0 1073741825 0 0 -1073741825 0 0\n\
           a filled slot, flat: 63 0; 0 0 0 1 1 1 2 2 2\n\
@@ -245,25 +239,24 @@ fn place_list_refusals(rt: &impl Print, plate: Plate) -> io::Result<()> {
 
 // Lift of A in slots 0 to 2, as parts 0 to 2: what it refuses, and a slot that is filled again.
 fn lifts(rt: &impl Print) -> io::Result<()> {
-    say(rt, b"Further rows of lift\n")?;
-    let a = lift_row(rt, fill(plate::empty(), 0, 3), 64)?;
-    let b = lift_row(rt, a, 3)?;
-    let c = lift_row(rt, b, 1)?;
-    let d = lift_row(rt, c, 1)?;
-    let e = place_rows(
+    rt.println("Further rows of lift")?;
+    let mut plate = fill(plate::empty(), 0..3);
+    for slot in [64, 3, 1, 1] {
+        plate = lift_row(rt, plate, slot)?;
+    }
+    plate = place_rows(
         rt,
-        d,
-        b"A in slot 1 again, as part 0: 1 0; 0 0 0 4 0 0 0 4 0\n",
+        plate,
+        "A in slot 1 again, as part 0: 1 0; 0 0 0 4 0 0 0 4 0\n",
     )?;
-    let f = undo_row(rt, e)?;
-    undo_row(rt, f)?;
+    plate = undo_row(rt, plate)?;
+    undo_row(rt, plate)?;
     Ok(())
 }
 
 // A plate after a place.
 fn placed(plate: Plate, slot: usize, part: usize, triangle: &[i32]) -> Plate {
-    let answer = plate::place(plate, slot, part, triangle);
-    answer.plate
+    plate::place(plate, slot, part, triangle).plate
 }
 
 // Part 2 has A in slot 5, and in slots 7 and 9 triangles that reach to one before the end of the grid and to its ends. Part 4
@@ -276,42 +269,46 @@ fn shift_plate() -> Plate {
 }
 
 // What shift refuses, and in which order: a part above 15, a part with no triangle, and moves that would take slot 9, slots 7
-// and 9, and slot 9 off the grid.
+// and 9, and slot 9 off the grid; then moves by the ends of 32 bits.
 fn shift_refusals(rt: &impl Print, plate: Plate) -> io::Result<Plate> {
-    let a = shift_row(rt, plate, 16, 2147483647, 0, 0)?;
-    let b = shift_row(rt, a, 3, 0, 2147483647, 0)?;
-    let c = shift_row(rt, b, 2, 1, 0, 0)?;
-    let d = shift_row(rt, c, 2, 2, 0, 0)?;
-    shift_row(rt, d, 2, 0, 0, -1)
-}
-
-// Moves by the ends of 32 bits.
-fn shift_end_refusals(rt: &impl Print, plate: Plate) -> io::Result<Plate> {
-    let a = shift_row(rt, plate, 2, 2147483647, 0, 0)?;
-    let b = shift_row(rt, a, 2, 0, -2147483648, 0)?;
-    shift_row(rt, b, 4, 0, 0, -2147483648)
+    shift_rows(
+        rt,
+        plate,
+        &[
+            (16, [i32::MAX, 0, 0]),
+            (3, [0, i32::MAX, 0]),
+            (2, [1, 0, 0]),
+            (2, [2, 0, 0]),
+            (2, [0, 0, -1]),
+            (2, [i32::MAX, 0, 0]),
+            (2, [0, i32::MIN, 0]),
+            (4, [0, 0, i32::MIN]),
+        ],
+    )
 }
 
 // From one end of the grid to the other: the longest move that there is, and its way back, which no 32-bit number holds.
 fn shift_across(rt: &impl Print) -> io::Result<()> {
-    let a = placed(plate::empty(), 0, 6, &[0, 0, L, 4, 0, L, 0, 4, L]);
-    let b = shift_row(rt, a, 6, 0, 0, -2147483648)?;
-    let c = undo_row(rt, b)?;
-    shift_row(rt, c, 6, 0, 0, 1)?;
+    let mut plate = placed(plate::empty(), 0, 6, &[0, 0, L, 4, 0, L, 0, 4, L]);
+    plate = shift_rows(rt, plate, &[(6, [0, 0, i32::MIN])])?;
+    plate = undo_row(rt, plate)?;
+    shift_rows(rt, plate, &[(6, [0, 0, 1])])?;
     Ok(())
 }
 
 // Moves that are served: by nothing, and to the end of the grid, where part 2 leaves the triangle of part 4 with slot 5 and meets it
 // with slots 7 and 9. One further is refused.
 fn shifts(rt: &impl Print) -> io::Result<()> {
-    say(rt, b"Further rows of shift\n")?;
-    let same = shift_end_refusals(rt, shift_refusals(rt, shift_plate())?)?;
-    let a = shift_row(rt, same, 2, 0, 0, 0)?;
-    let b = shift_row(rt, a, 2, -L, 0, 0)?;
-    let c = shift_row(rt, b, 2, -1, 0, 0)?;
-    undo_row(rt, c)?;
+    rt.println("Further rows of shift")?;
+    let mut plate = shift_refusals(rt, shift_plate())?;
+    plate = shift_rows(
+        rt,
+        plate,
+        &[(2, [0, 0, 0]), (2, [-L, 0, 0]), (2, [-1, 0, 0])],
+    )?;
+    undo_row(rt, plate)?;
     shift_across(rt)?;
-    say(rt, b"Undo of the empty plate\n")?;
+    rt.println("Undo of the empty plate")?;
     undo_row(rt, plate::empty())?;
     Ok(())
 }
@@ -324,90 +321,63 @@ fn parts_plate() -> Plate {
     placed(c, 3, 2, &ABOVE)
 }
 
-// What parts refuses, and in which order. Parts 3 and 4 have no triangle.
-fn parts_refusals(rt: &impl Print, plate: Plate) -> io::Result<()> {
-    parts_row(rt, plate, 16, 17)?;
-    parts_row(rt, plate, 3, 16)?;
-    parts_row(rt, plate, 3, 4)?;
-    parts_row(rt, plate, 0, 4)?;
-    parts_row(rt, plate, 3, 3)
-}
-
+// What parts refuses, and in which order. Parts 3 and 4 have no triangle. Then the verdicts on open shells.
 fn parts(rt: &impl Print) -> io::Result<()> {
-    say(
-        rt,
-        b"Further rows of parts\nfour triangles of three parts: ",
-    )?;
     let plate = parts_plate();
-    say_plate(rt, plate)?;
-    parts_refusals(rt, plate)?;
-    parts_row(rt, plate, 0, 0)?;
-    parts_row(rt, plate, 0, 1)?;
-    parts_row(rt, plate, 1, 0)?;
-    parts_row(rt, plate, 0, 2)?;
-    parts_row(rt, plate, 2, 1)
+    println!(rt;
+        "Further rows of parts\nfour triangles of three parts: {}",
+        Standing::of(plate)
+    )?;
+    parts_rows(rt, plate, &[(16, 17), (3, 16), (3, 4), (0, 4), (3, 3)])?;
+    parts_rows(rt, plate, &[(0, 0), (0, 1), (1, 0), (0, 2), (2, 1)])
 }
 
-// Of a block from (l,l,l) to (h,h,h) the bottom, the top and the front, in six slots; then its back, its left and its right. A face has two
-// triangles, which turn left as seen from outside.
-fn half_block(plate: Plate, slot: usize, part: usize, l: i32, h: i32) -> Plate
-    requires { slot ≤ 58 }
-{
-    let a = placed(plate, slot, part, &[l, l, l, l, h, l, h, h, l]);
-    let b = placed(a, slot + 1, part, &[l, l, l, h, h, l, h, l, l]);
-    let c = placed(b, slot + 2, part, &[l, l, h, h, l, h, h, h, h]);
-    let d = placed(c, slot + 3, part, &[l, l, h, h, h, h, l, h, h]);
-    let e = placed(d, slot + 4, part, &[l, l, l, h, l, l, h, l, h]);
-    placed(e, slot + 5, part, &[l, l, l, h, l, h, l, l, h])
-}
-
-fn other_half(plate: Plate, slot: usize, part: usize, l: i32, h: i32) -> Plate
-    requires { slot ≤ 58 }
-{
-    let a = placed(plate, slot, part, &[l, h, l, l, h, h, h, h, h]);
-    let b = placed(a, slot + 1, part, &[l, h, l, h, h, h, h, h, l]);
-    let c = placed(b, slot + 2, part, &[l, l, l, l, l, h, l, h, h]);
-    let d = placed(c, slot + 3, part, &[l, l, l, l, h, h, l, h, l]);
-    let e = placed(d, slot + 4, part, &[h, l, l, h, h, l, h, h, h]);
-    placed(e, slot + 5, part, &[h, l, l, h, h, h, h, l, h])
-}
-
-fn block(plate: Plate, slot: usize, part: usize, low: i32, high: i32) -> Plate
-    requires { slot ≤ 52 }
-{
-    let half = half_block(plate, slot, part, low, high);
-    other_half(half, slot + 6, part, low, high)
+// Adds a block from (l,l,l) to (h,h,h), in twelve slots: its bottom, top, front, back, left and right. A face has two triangles, which turn
+// left as seen from outside.
+fn block(mut plate: Plate, slot: usize, part: usize, l: i32, h: i32) -> Plate {
+    let faces = [
+        [l, l, l, l, h, l, h, h, l],
+        [l, l, l, h, h, l, h, l, l],
+        [l, l, h, h, l, h, h, h, h],
+        [l, l, h, h, h, h, l, h, h],
+        [l, l, l, h, l, l, h, l, h],
+        [l, l, l, h, l, h, l, l, h],
+        [l, h, l, l, h, h, h, h, h],
+        [l, h, l, h, h, h, h, h, l],
+        [l, l, l, l, l, h, l, h, h],
+        [l, l, l, l, h, h, l, h, l],
+        [h, l, l, h, h, l, h, h, h],
+        [h, l, l, h, h, h, h, l, h],
+    ];
+    for (slot, triangle) in (slot..).zip(&faces) {
+        plate = placed(plate, slot, part, triangle);
+    }
+    plate
 }
 
 // A pin in a block; then the block with a hollow, given by an inner skin, and the pin in it; and a pin in what is left of the block.
 fn swallowed(rt: &impl Print) -> io::Result<Plate> {
-    say(rt, b"a pin in a block: ")?;
     let pin = block(block(plate::empty(), 0, 0, 0, 20), 12, 1, 8, 9);
-    say_plate(rt, pin)?;
-    parts_row(rt, pin, 0, 1)?;
-    parts_row(rt, pin, 1, 0)?;
-    say(rt, b"the same with a hollow around the pin: ")?;
+    println!(rt; "a pin in a block: {}", Standing::of(pin))?;
+    parts_rows(rt, pin, &[(0, 1), (1, 0)])?;
     let hollow = block(pin, 24, 0, 4, 16);
-    say_plate(rt, hollow)?;
-    parts_row(rt, hollow, 0, 1)?;
-    parts_row(rt, hollow, 1, 0)?;
-    say(rt, b"another pin outside of the hollow: ")?;
+    println!(rt;
+        "the same with a hollow around the pin: {}",
+        Standing::of(hollow)
+    )?;
+    parts_rows(rt, hollow, &[(0, 1), (1, 0)])?;
     let two = block(hollow, 36, 2, 17, 18);
-    say_plate(rt, two)?;
-    parts_row(rt, two, 0, 2)?;
-    parts_row(rt, two, 1, 2)?;
+    println!(rt; "another pin outside of the hollow: {}", Standing::of(two))?;
+    parts_rows(rt, two, &[(0, 2), (1, 2)])?;
     Ok(two)
 }
 
 // Open shells: of the pin, which is asked against itself too, and then of the block.
 fn opened(rt: &impl Print, plate: Plate) -> io::Result<()> {
     let pin = lift_row(rt, plate, 23)?;
-    parts_row(rt, pin, 0, 1)?;
-    parts_row(rt, pin, 1, 0)?;
-    parts_row(rt, pin, 1, 1)?;
+    parts_rows(rt, pin, &[(0, 1), (1, 0), (1, 1)])?;
     let both = lift_row(rt, pin, 0)?;
-    parts_row(rt, both, 0, 1)?;
-    parts_row(rt, both, 1, 0)
+    parts_rows(rt, both, &[(0, 1), (1, 0)])
 }
 
 fn main(rt: HostRuntime) -> io::Result<()> {

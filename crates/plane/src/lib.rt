@@ -1,5 +1,5 @@
 // The tests in the plane: two triangles, and a segment and a triangle, of the grid. The crate is the inside of the calls and offers none
-// itself: its functions have a `requires`, since what is off the grid is refused before one of them is asked. What they decide is right of
+// itself: what is off the grid is refused before a point of it is made. What they decide is right of
 // triangles that are not flat; flat ones are refused before, or in space judged by crate `wires`.
 #![tactic(auto)]
 

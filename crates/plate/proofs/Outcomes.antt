@@ -1,20 +1,17 @@
 -- From what a plate shows to what its calls promise: the history that it stands for, and the outcome of each call. Assumes nothing.
 use mathlib.Core.Path.{◌≡◌, refl, sym, ap, subst, ◌∙◌}
 use mathlib.Core.List.{List, [], ◌∷◌, ◌++◌}
-use Prim.Native.Nat.{ℕ, zero, suc, min, ◌+◌, ◌-◌}
-use native.Mathlib.Numerals.{add-one}
+use Prim.Native.Nat.{ℕ, zero, suc, min, ◌-◌}
 use native.Mathlib.Omega.{arith}
 use lib.Dec.{eqb-suc-zero}
 use lib.ListN.{get_or, take, drop}
 use Rattle.checks.specs.Answers.{Answer, served, refused, Check, fine, ◌then◌}
 use Rattle.checks.specs.Told.{told_check}
 use Rattle.checks.proofs.AnswerLaws.{never_fine}
-use Rattle.slots.specs.Slots.{is_of, Clashes}
+use Rattle.slots.specs.Slots.{Clashes}
 use Rattle.slots.specs.Changes.{Change, apply, replay}
-use Rattle.shape.specs.Lists.{some}
-use Rattle.slots.specs.Counting.{has_mark}
 use Rattle.slots.specs.Showing.{Fit}
-use Rattle.slots.proofs.Clashing.{clashes_true, clashes_only, some_mark}
+use Rattle.slots.proofs.Clashing.{clashes_true, clashes_only}
 use Rattle.keeping.specs.Journal.{blank, entry_of, journal_of}
 use Rattle.keeping.specs.Steps.{Shows, Restored}
 use Rattle.keeping.specs.declared.plates.Plate.{Plate}

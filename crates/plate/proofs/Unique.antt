@@ -1,12 +1,12 @@
 -- No second answer meets a promise on a plate that stands for the history of some calls: what a history leads to fixes the plate, and so the
 -- promises fix what is told and the plate afterwards. (Every plate that calls made stands for their history: `demand_3`.) Assumes nothing.
-use mathlib.Core.Path.{◌≡◌, refl, sym, ap, ◌∙◌}
+use mathlib.Core.Path.{◌≡◌, sym, ap, ◌∙◌}
 use mathlib.Core.Bool.{Bool}
 use mathlib.Core.List.{List}
 use Prim.Native.Nat.{ℕ}
 use Rattle.std.specs.Prelude.{Result}
 use Rattle.shape.proofs.VerdictLaws.{says_fixed}
-use Rattle.checks.specs.Answers.{Answer, served, refused, Check, ◌then◌}
+use Rattle.checks.specs.Answers.{Answer, served, refused, ◌then◌}
 use Rattle.checks.specs.Told.{told_check}
 use Rattle.checks.specs.declared.answer.Refusal.{Refusal}
 use Rattle.checks.proofs.ReadBack.{check_back, check_back_law}

@@ -7,51 +7,32 @@ ghost use Rattle.io.specs.Counts.{IsPrefixLen};
 ghost use Rattle.sheet.specs.Replies.{got_count, Replied};
 
 use answering::{LONGEST, TEXT};
-use std::io::{Error, ErrorKind, Read};
+use std::io::{self, Error, ErrorKind, Read};
 use std::process::ExitCode;
 
-// What reading gave: so many bytes at the front of the buffer, up to the end of the input or of the buffer; or a read that failed.
-#[derive(Clone, Copy)]
-pub enum Got {
-    Bytes(usize),
-    Failed,
-}
-
-// Reads until the input ends or the buffer is full.
-fn read_all<R: Read>(input: &mut R, buf: &mut [u8]) -> Got
+// Reads until the input ends or the buffer is full, and gives how many bytes at the front of the buffer were read; or the error of a read
+// that failed. The bytes are counted by hand, since the library's `read_to_end` wants a heap and its `read_exact` an input that fills the buffer.
+fn read_all<R: Read>(input: &mut R, buf: &mut [u8]) -> io::Result<usize>
     ensures { IsPrefixLen (got_count result) buf.new }
 {
-    let mut done: usize = 0;
+    let mut done = 0;
     while done < buf.len() {
-        match input.read(&mut buf[done..]) {
-            Err(_) => return Got::Failed,
-            Ok(more) => {
-                if more == 0 {
-                    return Got::Bytes(done);
-                }
-                done += more;
-            }
+        let more = input.read(&mut buf[done..])?;
+        if more == 0 {
+            break;
         }
+        done += more;
     }
-    Got::Bytes(done)
+    Ok(done)
 }
 
-// An answer: so many bytes of text to write. Or none, because a read failed.
-#[derive(Clone, Copy)]
-pub enum Reply {
-    Made(usize),
-    Unread,
-}
-
-// The answer to what was read into the front of `sheet`.
-fn reply_to(got: Got, sheet: &[u8], text: &mut [u8; TEXT]) -> Reply
+// The answer to what was read into the front of `sheet`: so many bytes of text to write. There is none where a read failed.
+fn reply_to(got: io::Result<usize>, sheet: &[u8], text: &mut [u8; TEXT]) -> io::Result<usize>
     requires { IsPrefixLen (got_count got) sheet.now }
     ensures { Replied sheet.now text.new got result }
 {
-    match got {
-        Got::Failed => Reply::Unread,
-        Got::Bytes(n) => Reply::Made(answering::answer_sheet(&sheet[..n], text)),
-    }
+    let size = got?;
+    Ok(answering::answer_sheet(&sheet[..size], text))
 }
 
 // Where standard error can't be written either, the status alone tells.
@@ -72,12 +53,12 @@ fn fail_to_write(rt: &impl Eprint, why: &Error) -> ExitCode {
 fn main(rt: HostRuntime) -> ExitCode {
     let mut sheet = [0u8; LONGEST + 1];
     let mut text = [0u8; TEXT];
-    let got = read_all(&mut rt.stdin(), &mut sheet[..]);
-    match reply_to(got, &sheet[..], &mut text) {
-        Reply::Unread => fail(&rt, "sheet: standard input can't be read"),
-        Reply::Made(size) => match rt.write_all(&text[..size]) {
-            Err(why) => fail_to_write(&rt, &why),
-            Ok(()) => ExitCode::SUCCESS,
-        },
+    let got = read_all(&mut rt.stdin(), &mut sheet);
+    let Ok(size) = reply_to(got, &sheet, &mut text) else {
+        return fail(&rt, "sheet: standard input can't be read");
+    };
+    match rt.write_all(&text[..size]) {
+        Err(why) => fail_to_write(&rt, &why),
+        Ok(()) => ExitCode::SUCCESS,
     }
 }

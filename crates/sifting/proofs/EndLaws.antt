@@ -1,47 +1,21 @@
--- The ends of boxes (specs/Ends.antt): numbers mirrored, what the code reads of a box, that a triangle's box reaches every box whose triangle has a
+-- The ends of boxes (specs/Ends.antt): what the code reads of a box, that a triangle's box reaches every box whose triangle has a
 -- point in common with it, and that boxes which reach each other are not apart. Assumes nothing.
-use mathlib.Core.Path.{◌≡◌, refl, sym, ap, subst, subst₂, ◌∙◌}
+use mathlib.Core.Path.{◌≡◌, refl, subst₂, ◌∙◌}
 use mathlib.Core.Bool.{Bool, true, false, cond}
 use mathlib.Core.List.{List}
-use Prim.Native.Nat.{ℕ, zero, suc, ◌+◌, ◌*◌, ◌^◌, ◌<◌}
+use Prim.Native.Nat.{ℕ, zero, suc, ◌+◌, ◌*◌, ◌<◌}
 use native.Mathlib.Omega.{arith}
-use lib.IntN.{ℤ, pos, negsuc, pred_ℤ, neg_ℤ, ◌-ℤ◌, pred_ℤ-+ℤ, +ℤ_idl}
+use lib.IntN.{ℤ, pos, negsuc}
 use lib.ListN.{get_or, drop}
 use lib.Seq.{get_or-take, get_or-drop}
-use lib.Signed.{lt_z, mag, ◌≤ℤ◌, clash_ℤ}
-use mir.Syntax.{w32}
-use mir.Val.{to_z, of_z, hbits}
+use lib.Signed.{lt_z, ◌≤ℤ◌, clash_ℤ}
 use Rattle.algebra.proofs.Order.{lt_true, lt_false}
 use Rattle.shape.specs.Points.{points_at}
 use Rattle.shape.specs.Sharing.{Share}
 use Rattle.shape.proofs.Trading.{share_trade}
 use Rattle.boxes.specs.Boxes.{smaller, larger, best_at, box_of, apart_along, boxes_apart, six}
-use Rattle.boxes.proofs.BoxLaws.{read, apart_at}
+use Rattle.boxes.proofs.BoxLaws.{apart_at}
 use Rattle.sifting.specs.Ends.{mirror, Reaches}
-
--- ---- numbers mirrored
-minus_one_less : (z : ℤ) → negsuc 0 -ℤ z ≡ mirror z
-minus_one_less z = pred_ℤ-+ℤ (pos zero) (neg_ℤ z) ∙ ap pred_ℤ (+ℤ_idl (neg_ℤ z)) ∙ is z
-  where
-    is : (z : ℤ) → pred_ℤ (neg_ℤ z) ≡ mirror z
-    is (pos zero) = refl
-    is (pos (suc n)) = refl
-    is (negsuc n) = refl
-
-mirror_fits : {n : ℕ} (z : ℤ) → mag z < n → mag (mirror z) < n
-mirror_fits (pos k) h = h
-mirror_fits (negsuc k) h = h
-
-abbrev Fits : ℤ → Type 0
-Fits z = mag z < 2 ^ hbits w32
-
--- So the code's difference is the number mirrored, and it fits.
-module _ (z : ℤ) (fits : Fits z) where
-  pub mirror_read : negsuc 0 -ℤ to_z w32 (of_z w32 z) ≡ mirror z
-  mirror_read = minus_one_less (to_z w32 (of_z w32 z)) ∙ ap mirror (read z fits)
-
-  pub mirror_in_range : Fits (negsuc 0 -ℤ to_z w32 (of_z w32 z))
-  mirror_in_range = subst Fits (sym mirror_read) (mirror_fits z fits)
 
 -- ---- what the code reads of box j
 pub of_six : (j e : ℕ) (boxes : List ℤ) → e < 6 → get_or (six j boxes) e (pos 0) ≡ get_or boxes (6 * j + e) (pos 0)

@@ -2,10 +2,10 @@
 ghost use Rattle.std.specs.Prelude.{◌≡◌, true, ℕ, ◌+◌, ◌*◌, ◌≤◌, ◌<◌, length, get_or};
 ghost use Rattle.boxes.specs.Boxes.{six};
 ghost use Rattle.sifting.specs.Ends.{Reaches};
-ghost use Rattle.sifting.specs.Tables.{Joined, Candidates, CandidatesBelow};
+ghost use Rattle.sifting.specs.Tables.{Joined, CandidatesBelow};
 
-use crate::rows::{joined_of, rows_of};
-use crate::tables::put_table;
+use crate::bits::word_where;
+use crate::tables::Sieve;
 use boxes::boxes_apart;
 use words::span_of;
 
@@ -21,43 +21,26 @@ fn reaches(bounds: &[i32], boxes: &[i32], j: usize) -> bool
     !boxes_apart(bounds, &boxes[box_at..box_at + 6])
 }
 
-// Which of `count` boxes from one on it reaches. The last is asked first, so that the first is the lowest bit.
-fn reached_of(bounds: &[i32], boxes: &[i32], from: usize, count: usize) -> u64
-    requires { (length bounds.now ≡ 6) × (count ≤ 64) × ((t : ℕ) → t < count → 6 * (from + t) + 6 ≤ length boxes.now) }
-    ensures { Candidates bounds.now boxes.now from count result }
-{
-    let mut bits: u64 = 0;
-    let mut t = count;
-    while 0 < t {
-        t -= 1;
-        bits = 2 * bits + reaches(bounds, boxes, from + t) as u64;
-    }
-    bits
-}
-
 // The candidates of n boxes among m, asked one by one.
 fn put_one_by_one(words: &mut [u64], bounds: &[i32], boxes: &[i32], n: usize, m: usize)
     requires { (n ≤ 1024) × (n * 16 ≤ length words.old) × (6 * n ≤ length bounds.now) × (6 * m ≤ length boxes.now) }
     ensures { CandidatesBelow bounds.now boxes.now m words.new (n * 16) }
 {
-    let mut k: usize = 0;
-    while k < n * 16 {
+    for (k, word) in words[..n * 16].iter_mut().enumerate() {
         let box_at = 6 * (k / 16);
+        let first = &bounds[box_at..box_at + 6];
         let from = k % 16 * 64;
-        words[k] = reached_of(&bounds[box_at..box_at + 6], boxes, from, span_of(m, from));
-        k += 1;
+        *word = word_where(span_of(m, from), |t| reaches(first, boxes, from + t));
     }
 }
 
-// The candidates of box i, by the rows that serve it.
-fn put_row(words: &mut [u64], i: usize, table: &[u64], rows: [usize; 6])
-    requires { (i < 1024) × (i * 16 + 16 ≤ length words.old) × (length table.now ≡ 1552) × ((e : ℕ) → e < 6 → get_or rows e 0 ≤ 96) }
-    ensures { ((k : ℕ) → k < i * 16 → get_or words.new k 0 ≡ get_or words.old k 0) × ((w : ℕ) → w < 16 → Joined table.now rows w (get_or words.new (i * 16 + w) 0)) }
+// The candidates of a box, by the rows that serve it.
+fn put_row(words: &mut [u64], sieve: &Sieve, rows: [usize; 6])
+    requires { (length words.old ≡ 16) × ((e : ℕ) → e < 6 → get_or rows e 0 ≤ 96) }
+    ensures { (w : ℕ) → w < 16 → Joined sieve.now.words rows w (get_or words.new w 0) }
 {
-    let mut w: usize = 0;
-    while w < 16 {
-        words[i * 16 + w] = joined_of(table, rows, w);
-        w += 1;
+    for (w, word) in words.iter_mut().enumerate() {
+        *word = sieve.joined_of(rows, w);
     }
 }
 
@@ -66,15 +49,16 @@ fn put_by_table(words: &mut [u64], bounds: &[i32], boxes: &[i32], n: usize, m: u
     requires { (n ≤ 1024) × (0 < m) × (m ≤ 1024) × (n * 16 ≤ length words.old) × (6 * n ≤ length bounds.now) × (6 * m ≤ length boxes.now) }
     ensures { CandidatesBelow bounds.now boxes.now m words.new (n * 16) }
 {
-    let mut marks = [0i32; 96];
-    let mut table = [0u64; 1_552];
-    put_table(&mut marks[..], &mut table[..], boxes, m);
-    let mut i: usize = 0;
-    while i < n {
+    let mut sieve = Sieve {
+        marks: [0; 96],
+        words: [0; 1_552],
+    };
+    sieve.fill(boxes, m);
+    for i in 0..n {
         let box_at = 6 * i;
-        let rows = rows_of(&marks[..], &bounds[box_at..box_at + 6]);
-        put_row(words, i, &table[..], rows);
-        i += 1;
+        let rows = sieve.rows_of(&bounds[box_at..box_at + 6]);
+        let at = i * 16;
+        put_row(&mut words[at..at + 16], &sieve, rows);
     }
 }
 

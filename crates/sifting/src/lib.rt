@@ -2,6 +2,7 @@
 // one. Like crate `kernel`, this is the inside of the calls: it offers none itself, and `put_candidates` has a `requires`.
 #![tactic(auto)]
 
+mod bits;
 mod candidates;
 mod ends;
 mod marks;

@@ -1,6 +1,6 @@
 -- What estimates tell of the signs of a triangle's corners, all at once (specs/Spaces.antt). Assumes nothing.
 use mathlib.Core.Path.{◌≡◌, refl, sym, ap, subst, ◌∙◌}
-use mathlib.Core.Bool.{Bool, true, false, ◌&&◌, ◌||◌, cond, true≢false}
+use mathlib.Core.Bool.{Bool, true, false, not, ◌&&◌, ◌||◌, cond, true≢false}
 use Prim.Native.Nat.{ℕ, ◌+◌, ◌-◌, ◌*◌, ◌≤◌, ◌<◌}
 use native.Mathlib.Omega.{arith}
 use lib.Dec.{eqb}
@@ -36,27 +36,22 @@ sure_told {e} {a} {b} {c} {d} told sure_of_it = by_side (far_above e) (far_below
 
 -- ---- three at once
 pub guessed : {x y z : Float} {a b c p q r : Point} → Told x a b c p → Told y a b c q → Told z a b c r →
-    Guesses (9 * level a b c p + 3 * level a b c q + level a b c r) (9 * sure_level x + 3 * sure_level y + sure_level z) (1 - bool_byte (sure x && sure y && sure z))
-guessed {x} {y} {z} {a} {b} {c} {p} {q} {r} tx ty tz = record {
-  right = right;
+    Guesses (9 * level a b c p + 3 * level a b c q + level a b c r) (9 * sure_level x + 3 * sure_level y + sure_level z) (sure x && sure y && sure z)
+guessed {x} {y} {z} tx ty tz = record {
+  right = λ all.
+      let two = both_true (sure x && sure y) (sure z) all in
+      let one = both_true (sure x) (sure y) two.0 in
+      λ i. 9 * sure_told tx one.0 i + 3 * sure_told ty one.1 i + sure_told tz two.1 i;
   small = omega (arith, level_small x, level_small y, level_small z);
-  flag = omega arith;
 }
-  where
-    right : 1 - bool_byte (sure x && sure y && sure z) ≡ 0 →
-        9 * sure_level x + 3 * sure_level y + sure_level z ≡ 9 * level a b c p + 3 * level a b c q + level a b c r
-    right e =
-        let all = none_doubted (sure x && sure y && sure z) e in
-        let two = both_true (sure x && sure y) (sure z) all in
-        let one = both_true (sure x) (sure y) two.0 in
-        λ i. 9 * sure_told tx one.0 i + 3 * sure_told ty one.1 i + sure_told tz two.1 i
 
 -- The standing that a guess names, and 16 more where it is in doubt.
-pub guessed_standing : {p q guess doubt s : ℕ} → Guesses p guess doubt → p ≡ q → Stands guess s → s + 16 * doubt < 16 → Stands q (s + 16 * doubt)
-guessed_standing {p} {q} {guess} {doubt} {s} told same found few =
-    let none : doubt ≡ 0 = omega arith in
-    let only : s + 16 * doubt ≡ s = omega arith in
-    rw (only, sym same, sym (told.right none)) found
+pub guessed_standing : {p q guess s : ℕ} {sure : Bool} → Guesses p guess sure → p ≡ q → Stands guess s → s + 16 * bool_byte (not sure) < 16 →
+    Stands q (s + 16 * bool_byte (not sure))
+guessed_standing {p} {q} {guess} {s} {sure = true} told same found few =
+    let only : s + 16 * 0 ≡ s = omega arith in
+    rw (only, sym same, sym (told.right refl)) found
+guessed_standing {sure = false} told same found few = absurd (omega arith)
 
 -- ---- two at once
 set_and_clear : {X : Type 0} {b : Bool} → b ≡ true → b ≡ false → X

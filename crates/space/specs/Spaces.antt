@@ -78,11 +78,10 @@ sure e = far_above e || far_below e
 abbrev pub sure_level : Float → ℕ
 sure_level e = 2 * bool_byte (far_above e)
 
--- A pattern that was guessed, and 1 where it is in doubt.
-pub record Guesses (pattern guessed doubt : ℕ) : Type 0 where
-  pub right : doubt ≡ 0 → guessed ≡ pattern
+-- A pattern that was guessed, and whether that is sure.
+pub record Guesses (pattern guessed : ℕ) (sure : Bool) : Type 0 where
+  pub right : sure ≡ true → guessed ≡ pattern
   pub small : guessed ≤ 26
-  pub flag : doubt ≤ 1
 
 -- A verdict by a number, 1 for yes and 0 for no. From 2 on it tells nothing.
 abbrev pub Crosses : Bool → ℕ → Type 0

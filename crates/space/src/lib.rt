@@ -1,8 +1,7 @@
 // The tests in space on the grid: how a triangle stands to another's plane, two triangles in one plane, two that each have a corner alone; and of a
 // segment and a triangle the ends over the plane, the edges that it passes, and both in one plane. Crate `wires` puts those of a segment together, and
 // those in one plane, with the shapes that may be flat; crate `kernel` the standings and the last signs of two triangles, which crate `deciding` asks in
-// stages. The crate is the inside of the calls and offers none itself: its functions have a `requires`, since what is off the grid is refused before one
-// of them is asked.
+// stages. The crate is the inside of the calls and offers none itself: what is off the grid is refused before a point of it is made.
 #![tactic(auto)]
 
 mod meeting;

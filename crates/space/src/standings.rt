@@ -22,7 +22,8 @@ fn low_pattern(t: SpaceTriangle, u: SpaceTriangle, n: Normal) -> u32
     9 * low_level(u.r, n, t.p) + 3 * low_level(u.r, n, t.q) + low_level(u.r, n, t.r)
 }
 
-// The same of any sides, where the plane of u is known in doubles, too.
+// The same of any sides, where the plane of u is known in doubles, too. It is written out beside `low_pattern`, whose levels ask more of the corners: one
+// function over a closure would have to say what each asks and tells.
 fn exact_pattern(t: SpaceTriangle, u: SpaceTriangle, n: Normal, plane: Plane) -> u32
     requires { IsNormal u n × IsPlaneOf u plane }
     ensures { (result ≡ of_spaces pattern t u) × (result ≤ 26) }
@@ -132,11 +133,12 @@ pub fn kept_standing(t: &[i32], u: &[i32], n: &[i64], plane: &[f64]) -> u32
 
 // ---- by the estimate
 
-// A pattern, and 1 where it is in doubt.
+// A pattern, and whether the estimates are sure of it. An `Option` in its place was tried and takes 5 in 100 more: it is asked once the standing is looked
+// up, and the flag is counted beside that.
 #[derive(Clone, Copy)]
 pub struct Guess {
     pub pattern: u32,
-    pub doubt: u32,
+    pub sure: bool,
 }
 
 // Whether an estimate is farther from zero than its error.
@@ -157,7 +159,7 @@ fn sure_level(e: f64) -> u32
 // processor guesses.
 fn guess_of(t: SpaceTriangle, u: SpaceTriangle, plane: Plane) -> Guess
     requires { IsPlaneOf u plane }
-    ensures { Guesses (of_spaces pattern t u) result.pattern result.doubt }
+    ensures { Guesses (of_spaces pattern t u) result.pattern result.sure }
 {
     let a = rough_of(u.p);
     let x = estimate_of(plane, a, rough_of(t.p));
@@ -165,7 +167,7 @@ fn guess_of(t: SpaceTriangle, u: SpaceTriangle, plane: Plane) -> Guess
     let z = estimate_of(plane, a, rough_of(t.r));
     Guess {
         pattern: 9 * sure_level(x) + 3 * sure_level(y) + sure_level(z),
-        doubt: 1 - (is_sure(x) & is_sure(y) & is_sure(z)) as u32,
+        sure: is_sure(x) & is_sure(y) & is_sure(z),
     }
 }
 
@@ -175,5 +177,5 @@ pub fn estimated_standing(t: &[i32], u: &[i32], plane: Plane) -> u32
     ensures { result < 16 → Stands (of_lists pattern t.now u.now) result }
 {
     let guess = guess_of(space_triangle(t), space_triangle(u), plane);
-    standing_of(guess.pattern) + 16 * guess.doubt
+    standing_of(guess.pattern) + 16 * !guess.sure as u32
 }

@@ -1,56 +1,34 @@
 // Many changes of a plate at once.
-use checks::Checked;
 use plate::Plate;
+use std::ops::Range;
 
 // Document 01's piece A, in space.
 const A: [i32; 9] = [0, 0, 0, 4, 0, 0, 0, 4, 0];
 
-// Places A in each slot from `from` on and below `to`, its part the remainder of the slot's number by 16. Each place is a change,
-// and each two of these slots clash where their parts differ.
-pub fn fill(plate: Plate, from: usize, to: usize) -> Plate {
-    let mut filled = plate;
-    let mut slot = from;
-    while slot < to {
-        let answer = plate::place(filled, slot, slot % 16, &A);
-        let next = answer.plate;
-        filled = next;
-        slot += 1;
+// Places A in each of the slots, its part the remainder of the slot's number by 16. Each place is a change, and each two of these slots
+// clash where their parts differ.
+pub fn fill(mut plate: Plate, slots: Range<usize>) -> Plate {
+    for slot in slots {
+        plate = plate::place(plate, slot, slot % 16, &A).plate;
     }
-    filled
+    plate
 }
 
-pub fn undo_times(plate: Plate, times: usize) -> Plate {
-    let mut left = plate;
-    let mut n: usize = 0;
-    while n < times {
-        let answer = plate::undo(left);
-        let next = answer.plate;
-        left = next;
-        n += 1;
+pub fn undo_times(mut plate: Plate, times: usize) -> Plate {
+    for _ in 0..times {
+        plate = plate::undo(plate).plate;
     }
-    left
-}
-
-fn is_served(told: Checked) -> bool {
-    match told {
-        Checked::Refused(_) => false,
-        Checked::Fine => true,
-    }
+    plate
 }
 
 // How many undos are served before one is refused, 100 at most.
-pub fn undos_served(plate: Plate) -> usize {
-    let mut left = plate;
-    let mut n: usize = 0;
-    while n < 100 {
-        let answer = plate::undo(left);
-        let told = answer.told;
-        let next = answer.plate;
-        if !is_served(told) {
-            return n;
+pub fn undos_served(mut plate: Plate) -> usize {
+    for served in 0..100 {
+        let answer = plate::undo(plate);
+        if answer.told.is_err() {
+            return served;
         }
-        left = next;
-        n += 1;
+        plate = answer.plate;
     }
-    n
+    100
 }

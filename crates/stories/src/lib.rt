@@ -5,4 +5,4 @@ mod changes;
 mod plates;
 
 pub use changes::{fill, undo_times, undos_served};
-pub use plates::{counted, lift_row, parts_row, place_rows, say_plate, shift_row, undo_row};
+pub use plates::{Standing, counted, lift_row, parts_rows, place_rows, shift_rows, undo_row};

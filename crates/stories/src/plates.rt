@@ -1,120 +1,109 @@
 // Rows of the calls on a plate: what a call answered, and the plate afterwards, which a row gives back.
-use checks::Checked;
 use plate::{Plate, PlateAnswer};
-use printing::{read_count, read_list, say, say_count, say_refusal, say_verdict, say_whole, until};
-use std::io;
+use printing::{LONGEST, Told, read_list, told_verdict};
+use std::fmt::{self, Display};
+use std::io::{self, ErrorKind};
+
+// How a plate stands: its clash count, and how many changes undo can still take back.
+#[derive(Clone, Copy)]
+pub struct Standing {
+    count: u32,
+    reach: usize,
+}
+
+impl Standing {
+    pub fn of(plate: Plate) -> Standing {
+        Standing {
+            count: plate::count(plate),
+            reach: plate::reach(plate),
+        }
+    }
+}
+
+impl Display for Standing {
+    fn fmt<W: fmt::Write>(&self, f: &mut fmt::Formatter<W>) -> fmt::Result {
+        write!(f, "count {}, reach {}", self.count, self.reach)
+    }
+}
 
 // A call's count in a row of counts, or why it was refused.
 pub fn counted(rt: &impl Print, answer: PlateAnswer) -> io::Result<Plate> {
-    let told = answer.told;
-    let plate = answer.plate;
-    match told {
-        Checked::Refused(why) => {
-            say(rt, b"; ")?;
-            say_refusal(rt, why)?;
-        }
-        Checked::Fine => {
-            say(rt, b" ")?;
-            say_count(rt, plate::count(plate) as u64)?;
-        }
+    match answer.told {
+        Ok(()) => print!(rt; " {}", plate::count(answer.plate))?,
+        Err(why) => print!(rt; "; {why}")?,
     }
-    Ok(plate)
+    Ok(answer.plate)
 }
 
-fn say_told(rt: &impl Print, told: Checked) -> io::Result<()> {
-    match told {
-        Checked::Refused(why) => say_refusal(rt, why),
-        Checked::Fine => say(rt, b"served"),
-    }
-}
-
-// The clash count of a plate and how many changes undo can still take back.
-pub fn say_plate(rt: &impl Print, plate: Plate) -> io::Result<()> {
-    say(rt, b"count ")?;
-    say_count(rt, plate::count(plate) as u64)?;
-    say(rt, b", reach ")?;
-    say_count(rt, plate::reach(plate) as u64)?;
-    say(rt, b"\n")
-}
-
-// The end of a row.
-fn plate_told(rt: &impl Print, answer: PlateAnswer) -> io::Result<Plate> {
-    let told = answer.told;
-    let plate = answer.plate;
-    say(rt, b": ")?;
-    say_told(rt, told)?;
-    say(rt, b"; ")?;
-    say_plate(rt, plate)?;
-    Ok(plate)
+// A row by its name.
+fn plate_row(rt: &impl Print, name: impl Display + Drop, answer: PlateAnswer) -> io::Result<Plate> {
+    let told = Told {
+        answer: answer.told.map(|()| "served"),
+    };
+    println!(rt; "{name}: {told}; {}", Standing::of(answer.plate))?;
+    Ok(answer.plate)
 }
 
 // A table of places as text, a line a row: its name and a colon, the slot and the part, and after a semicolon the triangle. Each row
 // is put to the plate that the row before gave back.
-pub fn place_rows(rt: &impl Print, plate: Plate, table: &[u8]) -> io::Result<Plate> {
-    let mut placed = plate;
-    let mut at: usize = 0;
-    while at < table.len() {
-        let end = until(table, at, b'\n');
-        placed = place_row(rt, placed, &table[at..end])?;
-        at = end + 1;
+pub fn place_rows(rt: &impl Print, mut plate: Plate, table: &str) -> io::Result<Plate> {
+    for line in table.lines() {
+        plate = place_row(rt, plate, line)?;
     }
-    Ok(placed)
+    Ok(plate)
 }
 
-fn place_row(rt: &impl Print, plate: Plate, line: &[u8]) -> io::Result<Plate> {
-    let colon = until(line, 0, b':');
-    say(rt, &line[0..colon])?;
-    let slot = read_count(line, colon);
-    let part = read_count(line, slot.next);
-    let list = read_list(line, part.next);
-    let numbers = list.numbers;
-    let n = list.count;
-    plate_told(
-        rt,
-        plate::place(plate, slot.count, part.count, &numbers[0..n]),
-    )
+// A row that can't be read is an error.
+fn place_row(rt: &impl Print, plate: Plate, line: &str) -> io::Result<Plate> {
+    let (name, numbers) = line.split_once(':').ok_or(ErrorKind::InvalidData)?;
+    let answer = placed(plate, numbers).ok_or(ErrorKind::InvalidData)?;
+    plate_row(rt, name, answer)
+}
+
+// Puts what stands behind the colon to the plate.
+fn placed(plate: Plate, text: &str) -> Option<PlateAnswer> {
+    let (places, list) = text.split_once(';')?;
+    let (slot, part) = places.trim().split_once(' ')?;
+    let mut room = [0; LONGEST];
+    let triangle = read_list(list, &mut room)?;
+    Some(plate::place(plate, slot.parse().ok()?, part.parse().ok()?, triangle))
 }
 
 pub fn lift_row(rt: &impl Print, plate: Plate, slot: usize) -> io::Result<Plate> {
-    say(rt, b"lift of slot ")?;
-    say_count(rt, slot as u64)?;
-    plate_told(rt, plate::lift(plate, slot))
+    plate_row(
+        rt,
+        format_args!("lift of slot {slot}"),
+        plate::lift(plate, slot),
+    )
 }
 
-// One coordinate of a move.
-fn say_step(rt: &impl Print, d: i32) -> io::Result<()> {
-    say(rt, b" ")?;
-    say_whole(rt, d as i64)
-}
-
-pub fn shift_row(
+// A row for each part and move.
+pub fn shift_rows(
     rt: &impl Print,
-    plate: Plate,
-    part: usize,
-    dx: i32,
-    dy: i32,
-    dz: i32,
+    mut plate: Plate,
+    moves: &[(usize, [i32; 3])],
 ) -> io::Result<Plate> {
-    say(rt, b"shift of part ")?;
-    say_count(rt, part as u64)?;
-    say(rt, b" by")?;
-    say_step(rt, dx)?;
-    say_step(rt, dy)?;
-    say_step(rt, dz)?;
-    plate_told(rt, plate::shift(plate, part, dx, dy, dz))
+    for &(part, [dx, dy, dz]) in moves {
+        plate = plate_row(
+            rt,
+            format_args!("shift of part {part} by {dx} {dy} {dz}"),
+            plate::shift(plate, part, dx, dy, dz),
+        )?;
+    }
+    Ok(plate)
 }
 
 pub fn undo_row(rt: &impl Print, plate: Plate) -> io::Result<Plate> {
-    say(rt, b"undo")?;
-    plate_told(rt, plate::undo(plate))
+    plate_row(rt, "undo", plate::undo(plate))
 }
 
-pub fn parts_row(rt: &impl Print, plate: Plate, p: usize, q: usize) -> io::Result<()> {
-    say(rt, b"parts ")?;
-    say_count(rt, p as u64)?;
-    say(rt, b" and ")?;
-    say_count(rt, q as u64)?;
-    say(rt, b": ")?;
-    say_verdict(rt, plate::parts(plate, p, q))?;
-    say(rt, b"\n")
+// A row for each two parts.
+pub fn parts_rows(rt: &impl Print, plate: Plate, parts: &[(usize, usize)]) -> io::Result<()> {
+    for &(p, q) in parts {
+        println!(rt;
+            "parts {p} and {q}: {}",
+            told_verdict(plate::parts(plate, p, q))
+        )?;
+    }
+    Ok(())
 }

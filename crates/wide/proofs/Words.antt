@@ -1,5 +1,6 @@
 -- Sums and differences of pairs of words, over their values: a low word that has wrapped is told by a comparison, what it lost goes up into the high
--- word, and no high word overflows where the sum or the difference is up to 2^126 in size. Assumes nothing.
+-- word, and no high word overflows where the sum or the difference is up to 2^126 in size. The check finds the proofs of `add` and `sub` without them; they say why these hold.
+-- Assumes nothing.
 use Rattle.std.proofs.Common.{◌≡◌, ℕ, ◌+◌, ◌*◌, ◌%◌, ◌^◌, ◌<◌, ◌≤◌, [], ◌∷◌, ℤ, pos, negsuc, ◌+ℤ◌, ◌-ℤ◌, ◌*ℤ◌, nat_abs, sym, refl, ap, subst, arith, to_z-of_z, w64, SFits, to_z, of_z}
 use Rattle.algebra.proofs.Bound.{abs_add, abs_sub, abs_mul}
 use Rattle.algebra.proofs.Machine.{Reads, held}

@@ -120,20 +120,8 @@ module _ (u v : ℤ) (fu : SFits w64 u) (fv : SFits w64 v) where
       (u0 u v fu fv * v0 u v fu fv / 2 ^ 32) (u0 u v fu fv * v0 u v fu fv % 2 ^ 32) (t0 u v fu fv) s0
       (halves u fu) (halves v fv) (div-mod (u0 u v fu fv * v0 u v fu fv)) (halves (t u v fu fv) (t-ok u v fu fv)) (halves s s-ok)
 
-pub overflow_cast-w : goal.overflow_cast-w
-overflow_cast-w c = low_cast (of_z w64 c.args.u)
-
-pub overflow_cast-w-2 : goal.overflow_cast-w-2
-overflow_cast-w-2 c = low_cast (of_z w64 c.args.v)
-
-pub overflow_mul-w : goal.overflow_mul-w
-overflow_mul-w c = w_fits c.args.u c.args.v c.ranges.u c.ranges.v
-
 pub overflow_mul-t : goal.overflow_mul-t
 overflow_mul-t c = in_range (cross c.args.u c.args.v c.ranges.u c.ranges.v) tt
-
-pub overflow_cast-t : goal.overflow_cast-t
-overflow_cast-t c = w-cast c.args.u c.args.v c.ranges.u c.ranges.v
 
 pub overflow_add-t : goal.overflow_add-t
 overflow_add-t c = t-fits c.args.u c.args.v c.ranges.u c.ranges.v

@@ -48,9 +48,6 @@ overflow_cast-result c = low_cast (of_z w64 (qm c.args.m c.args.d c.ranges.m c.r
 pub overflow_mul-result : goal.overflow_mul-result
 overflow_mul-result c = half_fits (of_z w64 (qm c.args.m c.args.d c.ranges.m c.ranges.d c.requires))
 
-pub overflow_cast-result-2 : goal.overflow_cast-result-2
-overflow_cast-result-2 c = low_cast (of_z w64 (pm c.args.m c.args.d c.ranges.m c.ranges.d c.requires))
-
 pub overflow_add-result : goal.overflow_add-result
 overflow_add-result c =
     word_fits (of_z w64 (qm c.args.m c.args.d c.ranges.m c.ranges.d c.requires)) (of_z w64 (pm c.args.m c.args.d c.ranges.m c.ranges.d c.requires))

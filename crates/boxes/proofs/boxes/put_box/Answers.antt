@@ -1,29 +1,29 @@
--- `boxes::boxes::put_box` meets its contract: the six numbers are stored one by one. Assumes nothing.
-use mathlib.Core.Path.{◌∙◌}
-use mathlib.Core.List.{[], ◌∷◌}
+-- `boxes::boxes::put_box` meets its contract: at the coordinates before c the least and the greatest stand. Assumes nothing.
+use mathlib.Core.Path.{◌≡◌, refl}
+use native.Mathlib.Omega.{arith}
 use borrow.Author.Rules.{rules}
-use mir.Syntax.{w32}
-use Rattle.algebra.proofs.Machine.{returned}
-use Rattle.exact.proofs.Readings.{all_stored}
+use borrow.Author.Differences.{ints}
+use lib.IntN.{ℤ}
+use Rattle.std.specs.Int.{int_min, int_max}
+use Rattle.boxes.specs.Boxes.{smaller, larger, better}
+use Rattle.boxes.proofs.BoxLaws.{best_read, bounded_more, all_bounded}
 use Rattle.boxes.proofs.boxes.put_box.Goals as goal
 
-pub bounds-bounds-4 : goal.bounds-bounds-4
-bounds-bounds-4 c = search rules depth 8
+-- The library's lesser and greater of two numbers are the better of them.
+lesser_is : (x y : ℤ) → int_min x y ≡ better smaller x y
+lesser_is x y = refl
 
-pub bounds-bounds-5 : goal.bounds-bounds-5
-bounds-bounds-5 c = search rules depth 9
+greater_is : (x y : ℤ) → int_max x y ≡ better larger x y
+greater_is x y = grind (arith, ints)
 
-pub shape_of-bounds : goal.shape_of-bounds
-shape_of-bounds c = search rules depth 9
+pub loop-c-preserved : goal.loop-c-preserved
+loop-c-preserved c =
+    let l = c.args.corners.now in
+    let i = c.loop-c.c in
+    bounded_more (omega arith) c.loop-c-test.true
+    (best_read smaller i l int_min lesser_is (search rules) (search rules) (search rules) (search rules) (search rules) c.min.ensures.value c.min-in-loop-c.ensures.value)
+    (best_read larger i l int_max greater_is (search rules) (search rules) (search rules) (search rules) (search rules) c.max.ensures.value c.max-in-loop-c.ensures.value)
+    c.loop-c.invariant
 
 pub returns : goal.returns
-returns c =
-    let c3 = c.greatest_at-3 in
-    let c2 = c.greatest_at-2 in
-    let c1 = c.greatest_at in
-    let l3 = c.least_at-3 in
-    let l2 = c.least_at-2 in
-    let l1 = c.least_at in
-    all_stored (_ ∷ _ ∷ _ ∷ _ ∷ _ ∷ _ ∷ []) c.args.bounds.now c.requires.0
-    ∙ (λ i. returned w32 l1.type_inv l1.ensures i ∷ returned w32 l2.type_inv l2.ensures i ∷ returned w32 l3.type_inv l3.ensures i
-    ∷ returned w32 c1.type_inv c1.ensures i ∷ returned w32 c2.type_inv c2.ensures i ∷ returned w32 c3.type_inv c3.ensures i ∷ [])
+returns c = all_bounded (omega arith) (λ k less. c.loop-c.invariant k (omega arith))

@@ -11,6 +11,7 @@ use Rattle.inside.proofs.Levels.{three_told, three_passed}
 use Rattle.inside.proofs.ahead.plane_level.Goals as goal
 
 -- The opposite of a coordinate of the normal.
+
 opposite : {n : Point} → Sized minor_size n → (i : ℕ) → Reads (pos 0 -ℤ kept (coord i n)) (pos 0 -ℤ coord i n) (0 + minor_size)
 opposite s i = let zero : Reads (pos 0) (pos 0) 0 = exact (record { abs = omega arith }) in difference zero (coordinate tt s i)
 

@@ -1,6 +1,4 @@
 -- `plate::questions::closed_checked` meets its contract: the triangles are those of the part. Assumes nothing.
-use Rattle.std.proofs.Common.{◌≡◌, refl, sym, ◌∙◌, ap, cond, Bool}
-use Rattle.checks.specs.Answers.{refused, fine}
 use Rattle.plate.proofs.PartsLaws.{shell_found}
 use Rattle.plate.proofs.questions.closed_checked.Goals as goal
 

@@ -1,5 +1,5 @@
 -- `plate::questions::present_verdict` meets its contract: the same part, the skins, and then the shells. Assumes nothing.
-use Rattle.std.proofs.Common.{◌≡◌, true, false, sym, ap, ◌∙◌, subst, eq-eqb, ne_eqb}
+use Rattle.std.proofs.Common.{sym, ◌∙◌, subst, eq-eqb, ne_eqb}
 use native.Mathlib.Numerals.{add-one}
 use Rattle.slots.specs.Counting.{marks_strike}
 use Rattle.slots.specs.Showing.{Shown}

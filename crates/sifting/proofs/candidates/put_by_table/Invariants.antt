@@ -1,12 +1,7 @@
 -- `sifting::candidates::put_by_table` meets its contract: the words of the boxes before i are written, and those of the next leave them. Assumes nothing.
-use mathlib.Core.Path.{◌≡◌}
-use Prim.Native.Nat.{◌-◌, ◌*◌, ◌≤◌}
-use lib.ListN.{length}
+use Prim.Native.Nat.{◌*◌}
 use Rattle.sifting.specs.Tables.{CandidatesBelow}
 use Rattle.sifting.proofs.candidates.put_by_table.Given as goal
 
 abbrev pub invariant-loop-i : goal.invariant-loop-i
-invariant-loop-i l = (l.i ≤ l.n) × (length l.words ≡ length l.initial.words) × CandidatesBelow l.bounds l.boxes l.m l.words (l.i * 16)
-
-abbrev pub decreases-loop-i : goal.decreases-loop-i
-decreases-loop-i l = l.n - l.i
+invariant-loop-i l = CandidatesBelow l.bounds l.boxes l.m l.words (l.i * 16)

@@ -2,14 +2,10 @@
 use mathlib.Core.Path.{ap, ◌∙◌}
 use mathlib.Core.Bool.{not}
 use Prim.Native.Nat.{◌*◌}
-use Rattle.algebra.proofs.Parts.{part, length_lent}
+use Rattle.algebra.proofs.Parts.{part}
 use Rattle.boxes.specs.Boxes.{boxes_apart, six}
 use Rattle.sifting.proofs.EndLaws.{reaching_boxes}
 use Rattle.sifting.proofs.candidates.reaches.Goals as goal
-
-pub boxes_apart-requires : goal.boxes_apart-requires
-boxes_apart-requires c =
-    (c.requires.0, length_lent (6 * c.args.j) 6 c.args.boxes.now c.requires.1)
 
 pub returns : goal.returns
 returns c =

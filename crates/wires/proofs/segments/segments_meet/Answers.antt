@@ -12,6 +12,7 @@ use Rattle.wires.proofs.segments.segments_meet.Goals as goal
 use Rattle.wires.proofs.segments.segments_meet.Goals.{then-along_meet, else-along_meet}
 
 -- The three shadows in whatever order.
+
 all_three : (test : ℕ → Bool) → list_all test (range_with_len 0 3) ≡ all_below 3 test
 all_three test = by_tests (test 0) (test 1) (test 2)
   where
