@@ -73,7 +73,12 @@ pub put_line-end-requires : goal.put_line-end-requires
 put_line-end-requires c =
     let l = c.loop-field in
     let a = ahead (sym c.head_of.ensures ∙ c.in-Ok-Some.is ∙ ap Ok c.in-Ok-Some.field-0-is) c.body_and_behind.ensures in
-    (omega (arith, c.number-in-Err-field_checked.ensures, (small_reason c.in-Err-field_checked.why.reason).1), small_count l.invariant.calls l.invariant.stands, room_for_line l.invariant a.some c.requires.0 c.requires.1)
+    let why = c.in-Err-field_checked.why in
+    let number = c.number-in-Err-field_checked.ensures in (
+      omega (arith, number, (small_reason why.reason).1),
+      small_count l.invariant.calls l.invariant.stands,
+      room_for_line l.invariant a.some c.requires.0 c.requires.1,
+    )
 
 pub loop-field-smaller : goal.loop-field-smaller
 loop-field-smaller c =
@@ -89,5 +94,9 @@ loop-field-preserved c =
     let told = λ (before : List Call) (st : Stands (run before) l.plate).
     c.in-Err-field_checked.ensures (run before) (shown before st).slots st.reach
     ∙ ap (λ (body : List ℕ). number_of (outcome (run before) (call_of field.tag body))) a.has in
-    let put = refused_put {number = number_of_reason c.in-Err-field_checked.why.reason} (λ none. omega (arith, (small_reason c.in-Err-field_checked.why.reason).0)) told (line_as l.plate.count c.put_line-end.ensures c.number-in-Err-field_checked.ensures) in
+    let why = c.in-Err-field_checked.why in
+    let number = c.number-in-Err-field_checked.ensures in
+    let put =
+    refused_put {number = number_of_reason why.reason} (λ none. omega (arith, (small_reason why.reason).0)) told
+    (line_as l.plate.count c.put_line-end.ensures number) in
     one_more l.invariant field e a.leaves put (room_for_line l.invariant a.some c.requires.0 c.requires.1)
