@@ -1,23 +1,25 @@
 -- How often an edge occurs: among the edges that the code compares, in one triangle, and in all. Assumes nothing.
-use Rattle.std.proofs.Common.{◌≡◌, refl, sym, ap, ℕ, suc, ◌+◌, ◌*◌, ◌≤◌, Bool, true, false, cond, List, [], ◌∷◌, ◌++◌, map, filter, length, ℤ, arith}
+use Rattle.std.proofs.Common.{◌≡◌, refl, sym, ℕ, suc, ◌+◌, ◌*◌, ◌≤◌, Bool, true, false, cond, List, [], ◌∷◌, ◌++◌, length, ℤ, arith}
+use mir.Val.{bool_byte}
 use Rattle.std.specs.List.{sum_by}
 use Rattle.std.proofs.lemmas.List.Recursion.{is_sum_by}
 use Rattle.shape.specs.Lists.{held_by}
 use Rattle.shape.specs.Shells.{Edge, same_edge, edges_of, occurs}
 use Rattle.shape.specs.TriangleLists.{triangle_of, triangles_of}
-use Rattle.shells.specs.declared.closing.Edge.{Edge as EdgeHeld}
-use Rattle.shells.specs.Opening.{directed}
-use Rattle.shells.proofs.Sameness.{edge_eq, edges_same}
 
--- Those that are the same, counted.
-pub same_counted : (e : EdgeHeld) (fs : List EdgeHeld) → length (filter (edge_eq e) fs) ≡ occurs (directed e) (map directed fs)
-same_counted e [] = refl
-same_counted e (f ∷ fs) = rw (edges_same e f) (by_head (same_edge (directed e) (directed f)) (same_counted e fs))
-  where
-    by_head : (b : Bool) → length (filter (edge_eq e) fs) ≡ occurs (directed e) (map directed fs) →
-        length (cond b (f ∷ filter (edge_eq e) fs) (filter (edge_eq e) fs)) ≡ cond b (suc (occurs (directed e) (map directed fs))) (occurs (directed e) (map directed fs))
-    by_head true h = ap suc h
-    by_head false h = h
+-- Three tests counted, as `occurs` counts them.
+abbrev pub three : Bool → Bool → Bool → ℕ
+three x y z = cond x (suc (cond y (suc (cond z 1 0)) (cond z 1 0))) (cond y (suc (cond z 1 0)) (cond z 1 0))
+
+pub three_times : (x y z : Bool) → bool_byte x + bool_byte y + bool_byte z ≡ three x y z
+three_times true true true = refl
+three_times true true false = refl
+three_times true false true = refl
+three_times true false false = refl
+three_times false true true = refl
+three_times false true false = refl
+three_times false false true = refl
+three_times false false false = refl
 
 -- How often in one triangle: at most three times.
 abbrev pub times_there : Edge → List ℤ → ℕ

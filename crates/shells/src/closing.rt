@@ -1,6 +1,6 @@
 // Whether the shell of triangles is open: some directed edge does not occur once, or its reverse does not. Triangles stand in a list, nine numbers
 // each.
-ghost use Rattle.std.specs.Prelude.{◌≡◌, not, ◌*◌, ◌/◌, ◌^◌, ◌<◌, length, map};
+ghost use Rattle.std.specs.Prelude.{◌≡◌, not, ◌/◌, length, [], ◌∷◌};
 ghost use Rattle.shape.specs.Lists.{some, held_by};
 ghost use Rattle.shape.specs.Shells.{reverse, edges_of, occurs, is_closed};
 ghost use Rattle.shape.specs.TriangleLists.{triangle_of, triangles_in, triangles_of};
@@ -33,8 +33,8 @@ impl Edge {
 }
 
 // The edges of a triangle.
-fn edges_of(triangle: &[i32; 9]) -> [Edge; 3]
-    ensures { map directed result ≡ edges_of (triangle_of triangle.now) }
+fn edges_of(triangle: &[i32; 9]) -> (Edge, Edge, Edge)
+    ensures { directed result.0 ∷ directed result.1 ∷ directed result.2 ∷ [] ≡ edges_of (triangle_of triangle.now) }
 {
     let [ax, ay, az, bx, by, bz, cx, cy, cz] = *triangle;
     let a = Corner {
@@ -52,21 +52,19 @@ fn edges_of(triangle: &[i32; 9]) -> [Edge; 3]
         y: cy,
         z: cz,
     };
-    [
+    (
         Edge { from: a, to: b },
         Edge { from: b, to: c },
         Edge { from: c, to: a },
-    ]
+    )
 }
 
 // How often an edge occurs in a triangle.
 fn times_in(triangle: &[i32; 9], edge: Edge) -> usize
     ensures { result ≡ occurs (directed edge) (edges_of (triangle_of triangle.now)) }
 {
-    edges_of(triangle)
-        .iter()
-        .filter(|other| edge == **other)
-        .count()
+    let (first, second, third) = edges_of(triangle);
+    (edge == first) as usize + (edge == second) as usize + (edge == third) as usize
 }
 
 // How often it occurs in all.
@@ -90,9 +88,8 @@ fn edge_open(triangles: &[[i32; 9]], edge: Edge) -> bool
 fn has_open_edge(triangles: &[[i32; 9]], triangle: &[i32; 9]) -> bool
     ensures { result ≡ some (edge_open (triangles_of triangles.now)) (edges_of (triangle_of triangle.now)) }
 {
-    edges_of(triangle)
-        .iter()
-        .any(|edge| edge_open(triangles, *edge))
+    let (first, second, third) = edges_of(triangle);
+    edge_open(triangles, first) || edge_open(triangles, second) || edge_open(triangles, third)
 }
 
 // Whether the shell of the triangles in a list is open.
