@@ -87,6 +87,7 @@ impl<'a> GridSlots<'a> {
     }
 }
 
+// Any slots. Off the grid, where no accepted change leaves them, there are no clashes.
 impl Slots {
     // The same slots, if all their coordinates lie on the grid.
     pub fn on_grid(&self) -> Option<GridSlots<'_>>
