@@ -1,9 +1,8 @@
 -- What the functions on the arrays take for granted and promise: slots as the arrays show them, slots moved there, and the triangles of a part gathered
 -- from them.
-use Rattle.std.specs.Prelude.{◌≡◌, true, List, map, ℕ, suc, ◌+◌, ◌*◌, ◌≤◌, ℤ, get_or, length, set, take, drop}
+use Rattle.std.specs.Prelude.{◌≡◌, List, map, ℕ, suc, ◌+◌, ◌*◌, ◌≤◌, ℤ, get_or, length, set, take, drop}
 use Rattle.shape.specs.TriangleLists.{triangles_in}
 use Rattle.exact.specs.Grid.{Ready}
-use Rattle.checks.specs.Grid.{all_on}
 use Rattle.slots.specs.Slots.{Slot, free}
 use Rattle.slots.specs.Parts.{triangles_of}
 use Rattle.slots.specs.Changes.{shifted}
@@ -21,12 +20,6 @@ pub record Fit (S : List Slot) : Type 0 where
 -- The nine numbers at slot i of the coordinates.
 abbrev pub nine_at : ℕ → List ℤ → List ℤ
 nine_at i coords = take 9 (drop (9 * i) coords)
-
--- Arrays of the right lengths, with all coordinates on the grid: what the tests may take for granted on any plate.
-pub record Sized (coords : List ℤ) (marks : List ℕ) : Type 0 where
-  pub coords_long : length coords ≡ 576
-  pub on : all_on coords ≡ true
-  pub marks_long : length marks ≡ 64
 
 -- The arrays show these slots.
 pub record Shown (S : List Slot) (coords : List ℤ) (parts : List ℕ) : Type 0 where
