@@ -32,7 +32,7 @@ pub fn double_of(x: i64) -> f64
     x as f64
 }
 
-// b - a, which is exact on the grid.
+// b - a, which is exact on the grid. `row_of` of crate `exact` is the same of whole numbers; one function for both would have to be told what a difference is.
 fn difference_of(b: RoughPoint, a: RoughPoint) -> RoughPoint
     ensures { result ≡ difference b a }
 {

@@ -63,7 +63,7 @@ pub fn turn_of(points: &[i32]) -> i64
     )
 }
 
-// a - d, a row of the determinant.
+// a - d, a row of the determinant. In doubles `difference_of` of crate `estimates` rounds, and so it stays another function.
 pub fn row_of(a: SpacePoint, d: SpacePoint) -> Row
     ensures { differences result ≡ row (spatial a) (spatial d) }
 {

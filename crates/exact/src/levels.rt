@@ -16,7 +16,7 @@ use crate::points::{Normal, Row, SpacePoint};
 use estimates::{Plane, RoughPoint, double_of, estimate_of, is_above, is_below, plane_of};
 use wide::{low_product, told_by_low};
 
-// The level that a number tells, by its sign: 0 for -1, 1 for 0, 2 for 1.
+// The level that a number tells, by its sign: 0 for -1, 1 for 0, 2 for 1. It is a digit of document 01's sign pattern, and so a number.
 pub fn level_of(z: i64) -> u32
     ensures { (result ≡ digit (sign z)) × (result ≤ 2) }
 {

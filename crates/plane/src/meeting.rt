@@ -23,7 +23,7 @@ pub enum Sorted {
     PastTwo(PlaneTriangle),
 }
 
-// The triangle that fills a list of six numbers.
+// The triangle that fills a list of six numbers. That of nine, in crate `space`, reads other places by another reader: one function for both is no plainer.
 pub fn plane_triangle(numbers: &[i32]) -> PlaneTriangle
     requires { Ready 6 numbers.now }
     ensures { PlaneAt (point_at 2 0 numbers.now) (point_at 2 2 numbers.now) (point_at 2 4 numbers.now) result }

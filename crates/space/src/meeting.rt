@@ -15,7 +15,7 @@ use plane::{PlaneTriangle, planes_meet};
 // A triangle of space.
 pub type SpaceTriangle = Triangle<SpacePoint>;
 
-// The triangle that fills a list of nine numbers.
+// The triangle that fills a list of nine numbers; see that of six in crate `plane`.
 pub fn space_triangle(numbers: &[i32]) -> SpaceTriangle
     requires { Ready 9 numbers.now }
     ensures { SpaceAt (point_at 3 0 numbers.now) (point_at 3 3 numbers.now) (point_at 3 6 numbers.now) result }
@@ -36,7 +36,7 @@ pub fn normal_of(t: SpaceTriangle) -> Normal
 
 // ---- one plane
 
-// A point without the coordinate k: the two that are kept, in cyclic order.
+// A point without the coordinate k: the two that are kept, in cyclic order. k is a number, as in `without`, which speaks of every k.
 pub fn without_coordinate(k: u32, a: SpacePoint) -> PlanePoint
     ensures { planar result ≡ without k (spatial a) }
 {

@@ -94,7 +94,7 @@ pub fn exact_standing(t: &[i32], u: &[i32], n: Normal, plane: Plane) -> u32
 
 // ---- exactly, by rows that are kept
 
-// The normal that fills a row of three numbers.
+// The normal that fills a row of three numbers. `plane_in` is the same of doubles: one function for both would only give three values back.
 pub fn normal_in(numbers: &[i64]) -> Normal
     requires { (length numbers.now ≡ 3) × Sized minor_size numbers.now }
     ensures { components result ≡ numbers.now }

@@ -72,7 +72,8 @@ pub fn sign(a: Wide) -> i64
     }
 }
 
-// The whole product of any two 64-bit numbers, as in multiplying by hand in base 2^32.
+// The whole product of any two 64-bit numbers, as in multiplying by hand in base 2^32. By halves, since document 02 has the product of two 64-bit numbers in
+// words of 64 bits: no number here is wider.
 pub fn product(u: i64, v: i64) -> Wide
     ensures { value result ≡ u *ℤ v }
 {
@@ -91,7 +92,7 @@ pub fn product(u: i64, v: i64) -> Wide
     }
 }
 
-// The whole product of a 64-bit number and one up to 2^31 in size, by two multiplications in the place of four.
+// The whole product of a 64-bit number and one up to 2^31 in size, by two multiplications in the place of four. By halves, too.
 pub fn scaled(m: i64, d: i64) -> Wide
     requires { unsigned_abs d ≤ 2 ^ 31 }
     ensures { value result ≡ m *ℤ d }

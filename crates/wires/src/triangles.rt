@@ -42,7 +42,7 @@ fn level_segment_meets(first: &[i32], second: &[i32]) -> bool
 }
 
 // Whether a segment and a triangle have a point in common. That both ends are strictly on one side is one question, since no processor guesses which
-// side it is; and for the same reason the place of the higher end is computed.
+// side it is; and for the same reason the place of the higher end is computed. So the two levels stay the digits of one number.
 pub fn segment_meets_any(first: &[i32], second: &[i32]) -> bool
     requires { Ready 6 first.now × Ready 9 second.now }
     ensures { result ≡ of_segment segment_triangle_test first.now second.now }
