@@ -25,7 +25,7 @@ fn apply_shift(plate: Plate, body: &[u8]) -> PlateAnswer
     plate::shift(plate, byte_at(body, 0), dx, dy, dz)
 }
 
-// The call that a field asks for.
+// The call that a field asks for. The body is lent as it lies in the sheet, and read here and in checking.rt: see lib.rt.
 #[tactic(auto, unfolding(crate::specs::Calls::call_of))]
 pub fn apply(plate: Plate, tag: Tag, body: &[u8]) -> PlateAnswer
     requires { length body.now ≡ length_of tag }

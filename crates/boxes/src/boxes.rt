@@ -13,13 +13,15 @@ fn put_box(bounds: &mut [i32], corners: &[i32])
     requires { (length bounds.old ≡ 6) × (length corners.now ≡ 9) }
     ensures { bounds.new ≡ box_of corners.now }
 {
+    // Counted, since each coordinate is read at three places and written at two.
     for c in 0..3 {
         bounds[c] = corners[c].min(corners[c + 3]).min(corners[c + 6]);
         bounds[c + 3] = corners[c].max(corners[c + 3]).max(corners[c + 6]);
     }
 }
 
-// Writes a row of so many numbers for each triangle of a list, one after the other.
+// Writes a row of so many numbers for each triangle of a list, one after the other. The rows are counted: of what `chunks_exact_mut` lends only the length
+// is known once it is written.
 fn put_rows<X, F: Fn(&mut [X], &[i32])>(rows: &mut [X], width: usize, numbers: &[i32], put: F)
     requires room { width * triangles numbers.now ≤ length rows.old }
     requires takes { Takes (F.pre put) width numbers.now }
@@ -63,7 +65,7 @@ fn apart_along(c: usize, first: &[i32], second: &[i32]) -> bool
     (first[c + 3] < second[c]) || (second[c + 3] < first[c])
 }
 
-// Whether they do at some coordinate.
+// Whether they do at some coordinate. Written out: three in a row, with nothing to count.
 pub fn boxes_apart(first: &[i32], second: &[i32]) -> bool
     requires { (length first.now ≡ 6) × (length second.now ≡ 6) }
     ensures { result ≡ boxes_apart first.now second.now }

@@ -6,7 +6,7 @@ ghost use Rattle.exact.specs.Small.{narrow, Narrow};
 // The number `narrow` of crate `exact`'s specs/Small.antt.
 const NARROW: u32 = 524_288;
 
-// Whether a number is.
+// Whether a number is. A number of a normal is asked against another bound, in 64 bits, by `is_small` of crate `exact`.
 fn is_small(x: i32) -> bool
     ensures { Says result (nat_abs x ≤ narrow) }
 {

@@ -7,6 +7,7 @@ use telling::{numbers_of, put};
 pub fn zg_list(a: &[i32], b: &[i32], buffer: &mut [u32], start: usize, answer: &mut [u64]) -> u32
     ensures { ListWritten a.now b.now buffer.old start answer.old result buffer.new answer.new }
 {
+    // as `put` gives it, before anything is written
     if answer.len() < 4 {
         return 1;
     }

@@ -50,7 +50,7 @@ fn component_of(p: f64, q: f64, s: f64, t: f64) -> f64
     p * q - s * t
 }
 
-// v cross w.
+// v cross w. `minors_of` of crate `exact` is the same of whole numbers, where nothing rounds.
 fn cross_of(v: RoughPoint, w: RoughPoint) -> Plane
     ensures { result ≡ cross v w }
 {
@@ -68,7 +68,7 @@ pub fn plane_of(a: RoughPoint, b: RoughPoint, c: RoughPoint) -> Plane
     cross_of(difference_of(b, a), difference_of(c, a))
 }
 
-// Three rounded products, added left to right.
+// Three rounded products, added left to right. `dot_of` and `low_dot_of` of crate `exact` are the same in other words of the machine.
 fn product_of(n: Plane, u: RoughPoint) -> f64
     ensures { result ≡ product n u }
 {

@@ -8,7 +8,7 @@ ghost use Rattle.exact.specs.Vectors.{spatial};
 use exact::{SpacePoint, Triangle, level_at, level_of, normal_at, turn_at};
 use space::without_coordinate;
 
-// The first level that isn't the middle one.
+// The first level that isn't the middle one. Levels are numbers here too, as in `first_of`, `edge_level` and `plane_level` of that file.
 fn first_of(x: u32, y: u32) -> u32
     ensures { result ≡ first_of x y }
 {

@@ -1,4 +1,5 @@
-// Numbers in bytes, low byte first: what job sheets and byte doors are read with.
+// Numbers in bytes, low byte first: what job sheets and byte doors are read with. A place is told beside the bytes, since a field's head and its body are
+// read out of one list.
 #![tactic(auto)]
 
 mod reading;

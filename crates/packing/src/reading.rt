@@ -26,7 +26,7 @@ fn number_at(bytes: &[u8], at: usize) -> i32
     i32::from_le_bytes([bytes[at], bytes[at + 1], bytes[at + 2], bytes[at + 3]])
 }
 
-// Reads signed numbers from `at` on, four bytes each, until `numbers` is full.
+// Reads signed numbers from `at` on, four bytes each, until `numbers` is full. They are counted: what is known is what the first of them are.
 pub fn numbers_at(bytes: &[u8], at: usize, numbers: &mut [i32])
     requires { at + 4 * length numbers.old ≤ length bytes.now }
     ensures { numbers.new ≡ numbers_in (length numbers.old) (drop at bytes.now) }

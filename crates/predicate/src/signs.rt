@@ -34,7 +34,7 @@ pub fn side_value(points: &[i32]) -> Result<Wide, Refusal>
     Ok(side_of(points))
 }
 
-// The flat turn sign: whether the three points turn left (Positive), right (Negative) or lie on a line (Zero).
+// The sign calls stay two as well: each is a public promise of its own. The flat turn sign: whether the three points turn left (Positive), right (Negative) or lie on a line (Zero).
 pub fn turn_sign(points: &[i32]) -> Result<Sign, Refusal>
     ensures { told_sign result ≡ sign_rule 2 points.now }
 {

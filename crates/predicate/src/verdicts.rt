@@ -1,4 +1,4 @@
-// The public verdict calls: whether two shapes have a point in common.
+// The public verdict calls: whether two shapes have a point in common. Each is a promise of its own, and a call of the kernel's.
 ghost use Rattle.checks.specs.Rules.{refuses_flat, takes_flat};
 ghost use Rattle.predicate.specs.Rules.{VerdictRule};
 ghost use Rattle.predicate.specs.Told.{told_verdict};

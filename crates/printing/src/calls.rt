@@ -1,4 +1,4 @@
-// The calls that the rows of a table are put to.
+// The calls that the rows of a table are put to. Each is handed to `rows` by its name.
 use crate::answers::{Listed, Told, Valued, number, told_verdict, whole};
 use crate::tables::Lists;
 

@@ -32,7 +32,7 @@ impl Edge {
     }
 }
 
-// The edges of a triangle.
+// The edges of a triangle, as a tuple: gone through as an array they took longer.
 fn edges_of(triangle: &[i32; 9]) -> (Edge, Edge, Edge)
     ensures { directed result.0 ∷ directed result.1 ∷ directed result.2 ∷ [] ≡ edges_of (triangle_of triangle.now) }
 {

@@ -15,7 +15,7 @@ pub struct Numbers {
     pub value: u64,
 }
 
-// The numbers of an answer that serves, by the number of what it serves.
+// The numbers of an answer that serves, by the number of what it serves. 0 for served is the C interface's.
 pub fn served_numbers(value: u64) -> Numbers
     ensures { listed result ≡ four_numbers (served value) }
 {

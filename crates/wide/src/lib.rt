@@ -21,7 +21,7 @@ pub struct Wide {
     pub lo: u64,
 }
 
-// The sum, where it is up to 2^126 in size. Where its low word is below that of a, it has wrapped.
+// The sum, where it is up to 2^126 in size. The difference stands beside it as a function of its own, since document 02 asks for both. Where its low word is below that of a, it has wrapped.
 pub fn add(a: Wide, b: Wide) -> Wide
     requires { Small (value a +ℤ value b) }
     ensures { value result ≡ value a +ℤ value b }
@@ -59,7 +59,7 @@ pub fn sub(a: Wide, b: Wide) -> Wide
     }
 }
 
-// -1, 0 or 1.
+// -1, 0 or 1: a number, as `sign` of crate `shape` is. `Sign` is a type of crate `exact`, which stands above.
 pub fn sign(a: Wide) -> i64
     ensures { result ≡ sign (value a) }
 {

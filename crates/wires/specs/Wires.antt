@@ -10,10 +10,6 @@ use Rattle.shape.specs.WireTest.{stretches_meet, shadows_meet, segments_test, ei
 abbrev pub along_meet : (p q u v : Point) → Bool
 along_meet p q u v = all_below 3 (λ k. stretches_meet (coord k p) (coord k q) (coord k u) (coord k v))
 
--- Their shadows meet without each coordinate.
-abbrev pub shadows_all : (p q u v : Point) → Bool
-shadows_all p q u v = all_below 3 (λ k. shadows_meet k p q u v)
-
 -- One of two edges of a triangle a b c meets the segment p q.
 abbrev pub edges_meet : (p q a b c : Point) → Bool
 edges_meet p q = either_edge (segments_test p q)

@@ -17,7 +17,7 @@ pub struct Segment<P> {
 
 // ---- along a coordinate
 
-// Whether both p and q are below u and below v.
+// Whether both p and q are below u and below v: four tests, as `both_below` has them.
 fn both_below(p: i64, q: i64, u: i64, v: i64) -> bool
     ensures { result ≡ both_below p q u v }
 {
