@@ -1,10 +1,10 @@
 -- The vocabulary of the leaves in src/segments.rt and src/triangles.rt: parts of the decisions of crate `shape` (specs/WireTest.antt) that have a
--- function each, and points of the grid.
+-- function each.
 use Rattle.std.specs.Prelude.{Bool, cond, [], ◌∷◌}
 use Rattle.shape.specs.Points.{Point, coord}
 use Rattle.shape.specs.Flat.{all_below, is_flat}
 use Rattle.shape.specs.SpaceTest.{segment_in_plane_test}
-use Rattle.shape.specs.WireTest.{stretches_meet, shadows_meet, segments_test, either_edge, segment_triangle_test}
+use Rattle.shape.specs.WireTest.{stretches_meet, segments_test, either_edge, segment_triangle_test}
 
 -- The stretches of two segments meet along each coordinate.
 abbrev pub along_meet : (p q u v : Point) → Bool
