@@ -85,11 +85,13 @@ fn put_all_candidates(first: &[i32], second: &[i32], words: &mut [u64])
     requires { Sound first.now × Sound second.now × (triangles first.now * 16 ≤ length words.old) }
     ensures { MayMeetBelow first.now second.now words.new (triangles first.now * 16) }
 {
-    let mut bounds = [0i32; 6_144];
-    put_boxes(&mut bounds, first);
-    let mut boxes = [0i32; 6_144];
-    put_boxes(&mut boxes, second);
-    put_candidates(words, &bounds, &boxes, first.len() / 9, second.len() / 9);
+    let mut first_room = [0i32; 6_144];
+    let bounds = &mut first_room[..first.len() / 9 * 6];
+    put_boxes(bounds, first);
+    let mut second_room = [0i32; 6_144];
+    let boxes = &mut second_room[..second.len() / 9 * 6];
+    put_boxes(boxes, second);
+    put_candidates(words, bounds, boxes);
 }
 
 // The verdicts on all pairs of two lists that passed the checks. Gives how many pairs meet. There are boxes, normals and planes for 1,024

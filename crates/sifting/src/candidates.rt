@@ -1,5 +1,5 @@
 // The candidates: for each box of one list the boxes of the other that it may reach, a bit each. A pair of triangles that has no bit is apart.
-ghost use Rattle.std.specs.Prelude.{◌≡◌, true, ℕ, ◌+◌, ◌*◌, ◌≤◌, ◌<◌, length, get_or};
+ghost use Rattle.std.specs.Prelude.{◌≡◌, true, ℕ, ◌+◌, ◌*◌, ◌/◌, ◌≤◌, ◌<◌, length, get_or};
 ghost use Rattle.boxes.specs.Boxes.{six};
 ghost use Rattle.sifting.specs.Ends.{Reaches};
 ghost use Rattle.sifting.specs.Tables.{Joined, CandidatesBelow};
@@ -21,16 +21,17 @@ fn reaches(bounds: &[i32], boxes: &[i32], j: usize) -> bool
     !boxes_apart(bounds, &boxes[box_at..box_at + 6])
 }
 
-// The candidates of n boxes among m, asked one by one.
-fn put_one_by_one(words: &mut [u64], bounds: &[i32], boxes: &[i32], n: usize, m: usize)
-    requires { (n ≤ 1024) × (n * 16 ≤ length words.old) × (6 * n ≤ length bounds.now) × (6 * m ≤ length boxes.now) }
-    ensures { CandidatesBelow bounds.now boxes.now m words.new (n * 16) }
+// The candidates of the first boxes among the others, asked one by one.
+fn put_one_by_one(words: &mut [u64], bounds: &[i32], boxes: &[i32])
+    requires { (length bounds.now / 6 ≤ 1024) × (length bounds.now / 6 * 16 ≤ length words.old) }
+    ensures { CandidatesBelow bounds.now boxes.now (length boxes.now / 6) words.new (length bounds.now / 6 * 16) }
 {
-    for (k, word) in words[..n * 16].iter_mut().enumerate() {
+    let many = boxes.len() / 6;
+    for (k, word) in words[..bounds.len() / 6 * 16].iter_mut().enumerate() {
         let box_at = 6 * (k / 16);
         let first = &bounds[box_at..box_at + 6];
         let from = k % 16 * 64;
-        *word = word_where(span_of(m, from), |t| reaches(first, boxes, from + t));
+        *word = word_where(span_of(many, from), |t| reaches(first, boxes, from + t));
     }
 }
 
@@ -44,17 +45,17 @@ fn put_row(words: &mut [u64], sieve: &Sieve, rows: [usize; 6])
     }
 }
 
-// The candidates of n boxes among m, by a table.
-fn put_by_table(words: &mut [u64], bounds: &[i32], boxes: &[i32], n: usize, m: usize)
-    requires { (n ≤ 1024) × (0 < m) × (m ≤ 1024) × (n * 16 ≤ length words.old) × (6 * n ≤ length bounds.now) × (6 * m ≤ length boxes.now) }
-    ensures { CandidatesBelow bounds.now boxes.now m words.new (n * 16) }
+// The candidates of the first boxes among the others, by a table.
+fn put_by_table(words: &mut [u64], bounds: &[i32], boxes: &[i32])
+    requires { (length bounds.now / 6 ≤ 1024) × (6 ≤ length boxes.now) × (length boxes.now / 6 ≤ 1024) × (length bounds.now / 6 * 16 ≤ length words.old) }
+    ensures { CandidatesBelow bounds.now boxes.now (length boxes.now / 6) words.new (length bounds.now / 6 * 16) }
 {
     let mut sieve = Sieve {
         marks: [0; 96],
         words: [0; 1_552],
     };
-    sieve.fill(boxes, m);
-    for i in 0..n {
+    sieve.fill(boxes);
+    for i in 0..bounds.len() / 6 {
         let box_at = 6 * i;
         let rows = sieve.rows_of(&bounds[box_at..box_at + 6]);
         let at = i * 16;
@@ -62,14 +63,14 @@ fn put_by_table(words: &mut [u64], bounds: &[i32], boxes: &[i32], n: usize, m: u
     }
 }
 
-// The candidates of n boxes among m, a row of 16 words for each of the n.
-pub fn put_candidates(words: &mut [u64], bounds: &[i32], boxes: &[i32], n: usize, m: usize)
-    requires { (n ≤ 1024) × (m ≤ 1024) × (n * 16 ≤ length words.old) × (6 * n ≤ length bounds.now) × (6 * m ≤ length boxes.now) }
-    ensures { CandidatesBelow bounds.now boxes.now m words.new (n * 16) }
+// The candidates of the first boxes among the others, a row of 16 words for each of the first.
+pub fn put_candidates(words: &mut [u64], bounds: &[i32], boxes: &[i32])
+    requires { (length bounds.now / 6 ≤ 1024) × (length boxes.now / 6 ≤ 1024) × (length bounds.now / 6 * 16 ≤ length words.old) }
+    ensures { CandidatesBelow bounds.now boxes.now (length boxes.now / 6) words.new (length bounds.now / 6 * 16) }
 {
-    if n * m < WORTH {
-        put_one_by_one(words, bounds, boxes, n, m);
+    if bounds.len() / 6 * (boxes.len() / 6) < WORTH {
+        put_one_by_one(words, bounds, boxes);
     } else {
-        put_by_table(words, bounds, boxes, n, m);
+        put_by_table(words, bounds, boxes);
     }
 }

@@ -1,5 +1,5 @@
 // The tables of words (specs/Tables.antt).
-ghost use Rattle.std.specs.Prelude.{◌≡◌, ℕ, ◌-◌, ◌*◌, ◌^◌, ◌≤◌, ◌<◌, length, get_or};
+ghost use Rattle.std.specs.Prelude.{◌≡◌, ℕ, ◌-◌, ◌/◌, ◌^◌, ◌≤◌, ◌<◌, length, get_or};
 ghost use Rattle.sifting.specs.Tables.{SiftsAt, AllSet, Table};
 
 use crate::bits::word_where;
@@ -15,39 +15,39 @@ pub struct Sieve {
 }
 
 impl Sieve {
-    // The rows of all marks, of m boxes. The last row is left.
-    fn put_rows(&mut self, boxes: &[i32], m: usize)
-        requires { 6 * m ≤ length boxes.now }
-        ensures { (self.new.marks ≡ self.old.marks) × ((k : ℕ) → k < 1536 → SiftsAt boxes.now self.new.marks m self.new.words k) }
+    // The rows of all marks, on the boxes. The last row is left.
+    fn put_rows(&mut self, boxes: &[i32])
+        ensures { (self.new.marks ≡ self.old.marks) × ((k : ℕ) → k < 1536 → SiftsAt boxes.now self.new.marks (length boxes.now / 6) self.new.words k) }
     {
         let marks = self.marks;
+        let many = boxes.len() / 6;
         for (k, word) in self.words[..1_536].iter_mut().enumerate() {
             let mark = marks[k / 16];
             let from = k % 16 * 64;
             *word = word_where(
-                span_of(m, from),
+                span_of(many, from),
                 |t| end_at(boxes, k / 256, from + t) < mark,
             );
         }
     }
 
-    // The last row.
-    fn put_last_row(&mut self, m: usize)
-        ensures { (self.new.marks ≡ self.old.marks) × (length self.new.words ≡ 1552) × ((w : ℕ) → w < 16 → AllSet m self.new.words w) × ((k : ℕ) → k < 1536 → get_or self.new.words k 0 ≡ get_or self.old.words k 0) }
+    // The last row, on so many boxes.
+    fn put_last_row(&mut self, many: usize)
+        ensures { (self.new.marks ≡ self.old.marks) × (length self.new.words ≡ 1552) × ((w : ℕ) → w < 16 → AllSet many self.new.words w) × ((k : ℕ) → k < 1536 → get_or self.new.words k 0 ≡ get_or self.old.words k 0) }
     {
         for (w, word) in self.words[1_536..].iter_mut().enumerate() {
-            *word = all_of(span_of(m, w * 64));
+            *word = all_of(span_of(many, w * 64));
         }
     }
 
-    // The marks and the rows of m boxes.
-    pub fn fill(&mut self, boxes: &[i32], m: usize)
-        requires { (0 < m) × (m ≤ 1024) × (6 * m ≤ length boxes.now) }
-        ensures { Table boxes.now self.new.marks m self.new.words }
+    // The marks and the rows of the boxes.
+    pub fn fill(&mut self, boxes: &[i32])
+        requires { (6 ≤ length boxes.now) × (length boxes.now / 6 ≤ 1024) }
+        ensures { Table boxes.now self.new.marks (length boxes.now / 6) self.new.words }
     {
-        put_marks(&mut self.marks, boxes, m);
-        self.put_rows(boxes, m);
-        self.put_last_row(m);
+        put_marks(&mut self.marks, boxes);
+        self.put_rows(boxes);
+        self.put_last_row(boxes.len() / 6);
     }
 }
 

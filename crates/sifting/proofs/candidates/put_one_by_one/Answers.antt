@@ -13,6 +13,7 @@ pub loop-k-preserved : goal.loop-k-preserved
 loop-k-preserved c =
     let l = c.loop-k in
     let a = c.args in
+    let many = length a.boxes.now / 6 in
     let inside : l.k < length l.word-items = omega arith in
-    let this : Candidates (six (l.k / 16) a.bounds.now) a.boxes.now (first_of l.k) (span a.m (first_of l.k)) c.word_where.result = rw (← c.span_of.ensures) (record { small = c.word_where.ensures.small; set = λ t h reached. let told = c.word_where.ensures.told t h in search rules }) in
-    written_hold l.k l.word-items c.word_where.result 0 (λ j w. Candidates (six (j / 16) a.bounds.now) a.boxes.now (first_of j) (span a.m (first_of j)) w) inside this l.invariant
+    let this : Candidates (six (l.k / 16) a.bounds.now) a.boxes.now (first_of l.k) (span many (first_of l.k)) c.word_where.result = rw (← c.span_of.ensures) (record { small = c.word_where.ensures.small; set = λ t h reached. let told = c.word_where.ensures.told t h in search rules }) in
+    written_hold l.k l.word-items c.word_where.result 0 (λ j w. Candidates (six (j / 16) a.bounds.now) a.boxes.now (first_of j) (span many (first_of j)) w) inside this l.invariant

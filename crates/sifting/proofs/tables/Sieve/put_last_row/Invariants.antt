@@ -6,4 +6,4 @@ use Rattle.words.specs.Spans.{span}
 use Rattle.sifting.proofs.tables.Sieve.put_last_row.Given as goal
 
 abbrev pub invariant-loop-w : goal.invariant-loop-w
-invariant-loop-w l = (v : ℕ) → v < l.w → get_or l.word-items v 0 ≡ 2 ^ span l.m (v * 64) - 1
+invariant-loop-w l = (v : ℕ) → v < l.w → get_or l.word-items v 0 ≡ 2 ^ span l.many (v * 64) - 1
