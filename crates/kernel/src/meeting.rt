@@ -78,7 +78,7 @@ fn standing_to(t: &[i32], u: &[i32]) -> u32
 {
     let corners = space_triangle(&u[..]);
     let n = normal_of(corners);
-    if is_narrow(n) {
+    if is_narrow(n.vector()) {
         return space::low_standing(&t[..], &u[..], n);
     }
     let plane = plane_at(corners.p, corners.q, corners.r);

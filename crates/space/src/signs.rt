@@ -57,8 +57,8 @@ fn low_signs(t: SpaceTriangle, m: Normal, u: SpaceTriangle, n: Normal) -> bool
     requires { (components m ≡ normal_of (spatial t.p) (spatial t.q) (spatial u.p)) × (components n ≡ normal_of (spatial t.p) (spatial t.r) (spatial u.r)) × Holds (row (spatial u.p) (spatial u.q)) (components m) × Holds (row (spatial u.r) (spatial u.p)) (components n) }
     ensures { result ≡ of_spaces last_signs t u }
 {
-    let one = low_level(u.p, m, u.q);
-    let two = low_level(u.r, n, u.p);
+    let one = low_level(u.p, m.vector(), u.q);
+    let two = low_level(u.r, n.vector(), u.p);
     (one != 2) & (two != 2)
 }
 

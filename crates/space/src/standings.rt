@@ -20,7 +20,8 @@ fn low_pattern(t: SpaceTriangle, u: SpaceTriangle, n: Normal) -> u32
     requires { IsNormal u n × Holds (row (spatial u.r) (spatial t.p)) (components n) × Holds (row (spatial u.r) (spatial t.q)) (components n) × Holds (row (spatial u.r) (spatial t.r)) (components n) }
     ensures { (result ≡ of_spaces pattern t u) × (result ≤ 26) }
 {
-    9 * low_level(u.r, n, t.p) + 3 * low_level(u.r, n, t.q) + low_level(u.r, n, t.r)
+    let v = n.vector();
+    9 * low_level(u.r, v, t.p) + 3 * low_level(u.r, v, t.q) + low_level(u.r, v, t.r)
 }
 
 // The same of any sides, where the plane of u is known in doubles, too. It is written out beside `low_pattern`, whose levels ask more of the corners: one
