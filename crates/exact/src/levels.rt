@@ -109,9 +109,10 @@ fn told_first(e: f64, low: u32) -> u32
     }
 }
 
-// The level of d over the plane through a that has this normal, where the plane is held in doubles, too. Where the estimate can't tell the side, that is no
-// larger than twice the error, so that the exact sum decides by its low word. Both are found before either is asked, which spares branches that no
-// processor guesses.
+// The level of d over the plane through a that has this normal, where the plane is held in doubles, too. Where the estimate can't tell the side, that is
+// no larger than twice the error, so that the exact sum decides by its low word. Both are found before either is asked, which spares branches that no
+// processor guesses. Point, normal and plane stay three: `kept_standing` of crate `space` has the last two from rows of numbers and the first from a
+// list.
 pub fn level_over(a: SpacePoint, normal: Normal, plane: Plane, d: SpacePoint) -> u32
     requires { PlaneThrough (spatial a) (components normal) plane }
     ensures { (result ≡ digit (sign (dot (row (spatial a) (spatial d)) (components normal)))) × (result ≤ 2) }

@@ -15,7 +15,7 @@ pub enum Kind {
     SpaceTriangle,
 }
 
-// Whether the triangle that fills a list is flat.
+// Whether the triangle that fills a list is flat. It takes a kind and no closure: `coordinates_of` tells by it what the definitions ask.
 pub fn is_flat(kind: Kind, numbers: &[i32]) -> bool
     requires { Ready (3 * coordinates_of kind) numbers.now }
     ensures { result ≡ is_flat (coordinates_of kind) (points_at (coordinates_of kind) 3 0 numbers.now) }
