@@ -11,6 +11,7 @@ use Rattle.exact.specs.declared.points.PlanePoint.{PlanePoint}
 use Rattle.exact.specs.declared.points.SpacePoint.{SpacePoint}
 use Rattle.exact.specs.declared.points.Row.{Row}
 use Rattle.exact.specs.declared.points.Normal.{Normal}
+use Rattle.exact.specs.declared.points.Vector.{Vector}
 
 abbrev pub planar : PlanePoint → Point
 planar p = p.x ∷ p.y ∷ []
@@ -23,6 +24,9 @@ differences u = u.x ∷ u.y ∷ u.z ∷ []
 
 abbrev pub components : Normal → Point
 components n = n.x ∷ n.y ∷ n.z ∷ []
+
+abbrev pub vector : Vector → Point
+vector v = v.x ∷ v.y ∷ v.z ∷ []
 
 -- The product of a row and a normal is so small that its low word tells it.
 pub record Holds (u n : Point) : Type 0 where

@@ -32,6 +32,7 @@ pub fn plane_point(numbers: &[i32], at: usize) -> PlanePoint
     }
 }
 
+// The same of space: a third number is read. One function for both would have to be told what a point is.
 pub fn space_point(numbers: &[i32], at: usize) -> SpacePoint
     requires { (at + 3 ≤ length numbers.now) × OnGrid numbers.now }
     ensures { spatial result ≡ point_at 3 at numbers.now }
@@ -75,7 +76,7 @@ pub fn row_of(a: SpacePoint, d: SpacePoint) -> Row
 }
 
 // The 2 by 2 minors of two rows, as a vector. Each product is at most 2^62 in size; that their differences are too, the caller shows of
-// rows that have a point in common.
+// rows that have a point in common. In doubles `cross_of` of crate `estimates` rounds, and so it stays another function.
 fn minors_of(v: Row, w: Row) -> Normal
     requires { Sized minor_size (minors (differences v) (differences w)) }
     ensures { components result ≡ minors (differences v) (differences w) }
@@ -87,7 +88,8 @@ fn minors_of(v: Row, w: Row) -> Normal
     }
 }
 
-// The product of a row and a normal: three products of up to 2^93 in size, and their sum.
+// The product of a row and a normal: three products of up to 2^93 in size, and their sum. `low_dot_of` of src/levels.rt and `product_of` of crate
+// `estimates` are the same in other words of the machine.
 fn dot_of(u: Row, n: Normal) -> Wide
     ensures { value result ≡ dot (differences u) (components n) }
 {

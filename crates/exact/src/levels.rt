@@ -9,10 +9,10 @@ ghost use Rattle.shape.specs.Verdicts.{Says};
 ghost use Rattle.estimates.specs.Doubles.{rough, plane_of, far_above, far_below};
 ghost use Rattle.wide.specs.Low.{HasLowWord};
 ghost use Rattle.exact.specs.Sizes.{Sized, narrow_size};
-ghost use Rattle.exact.specs.Vectors.{spatial, differences, components, Holds, PlaneThrough};
+ghost use Rattle.exact.specs.Vectors.{spatial, differences, components, vector, Holds, PlaneThrough};
 
 use crate::determinant::{Sign, normal_at, row_of};
-use crate::points::{Normal, Row, SpacePoint};
+use crate::points::{Normal, Row, SpacePoint, Vector};
 use estimates::{Plane, RoughPoint, double_of, estimate_of, is_above, is_below, plane_of};
 use wide::{low_product, told_by_low};
 
@@ -29,6 +29,19 @@ pub fn level_of(z: i64) -> u32
 
 // ---- by the low word
 
+impl Normal {
+    // Its numbers, for those who ask nothing of their size.
+    pub fn vector(self) -> Vector
+        ensures { vector result ≡ components self }
+    {
+        Vector {
+            x: self.x,
+            y: self.y,
+            z: self.z,
+        }
+    }
+}
+
 // How large the components of a normal may be so that its product with every row is told by its low word: `narrow_size` of specs/Sizes.antt.
 const NARROW_SIZE: u64 = 1_431_655_765;
 
@@ -40,15 +53,15 @@ fn is_small(x: i64) -> bool
 }
 
 // Whether the components of a normal are. All three are asked, which spares branches that no processor guesses.
-pub fn is_narrow(n: Normal) -> bool
-    ensures { Says result (Sized narrow_size (components n)) }
+pub fn is_narrow(n: Vector) -> bool
+    ensures { Says result (Sized narrow_size (vector n)) }
 {
     is_small(n.x) & is_small(n.y) & is_small(n.z)
 }
 
 // The low word of the product of a row and a normal.
-fn low_dot_of(u: Row, n: Normal) -> u64
-    ensures { HasLowWord (dot (differences u) (components n)) result }
+fn low_dot_of(u: Row, n: Vector) -> u64
+    ensures { HasLowWord (dot (differences u) (vector n)) result }
 {
     let x = low_product(u.x, n.x);
     let y = low_product(u.y, n.y);
@@ -57,8 +70,8 @@ fn low_dot_of(u: Row, n: Normal) -> u64
 }
 
 // The level of d over the plane through c that has this normal, where the low word tells the side. Elsewhere the number tells nothing.
-pub fn low_level(c: SpacePoint, normal: Normal, d: SpacePoint) -> u32
-    ensures { (Holds (row (spatial c) (spatial d)) (components normal) → result ≡ digit (sign (dot (row (spatial c) (spatial d)) (components normal)))) × (result ≤ 2) }
+pub fn low_level(c: SpacePoint, normal: Vector, d: SpacePoint) -> u32
+    ensures { (Holds (row (spatial c) (spatial d)) (vector normal) → result ≡ digit (sign (dot (row (spatial c) (spatial d)) (vector normal)))) × (result ≤ 2) }
 {
     level_of(told_by_low(low_dot_of(row_of(c, d), normal)))
 }
@@ -96,15 +109,16 @@ fn told_first(e: f64, low: u32) -> u32
     }
 }
 
-// The level of d over the plane through a that has this normal, where the plane is held in doubles, too. Where the estimate can't tell the side, that is no
-// larger than twice the error, so that the exact sum decides by its low word. Both are found before either is asked, which spares branches that no
-// processor guesses.
+// The level of d over the plane through a that has this normal, where the plane is held in doubles, too. Where the estimate can't tell the side, that is
+// no larger than twice the error, so that the exact sum decides by its low word. Both are found before either is asked, which spares branches that no
+// processor guesses. Point, normal and plane stay three: `kept_standing` of crate `space` has the last two from rows of numbers and the first from a
+// list.
 pub fn level_over(a: SpacePoint, normal: Normal, plane: Plane, d: SpacePoint) -> u32
     requires { PlaneThrough (spatial a) (components normal) plane }
     ensures { (result ≡ digit (sign (dot (row (spatial a) (spatial d)) (components normal)))) × (result ≤ 2) }
 {
     let e = estimate_of(plane, rough_of(a), rough_of(d));
-    told_first(e, low_level(a, normal, d))
+    told_first(e, low_level(a, normal.vector(), d))
 }
 
 // The level of d over the plane of a, b, c, by the sign of [a,b,c,d]; likewise.

@@ -9,4 +9,4 @@ mod points;
 
 pub use determinant::{Sign, normal_at, plane_point, side_of, space_point, turn_at, turn_of};
 pub use levels::{is_narrow, level_at, level_of, level_over, low_level, plane_at, rough_of};
-pub use points::{Normal, PlanePoint, Row, SpacePoint, Triangle};
+pub use points::{Normal, PlanePoint, Row, SpacePoint, Triangle, Vector};

@@ -1,5 +1,6 @@
 // Points of the grid, rows of a determinant, normals and triangles. A point lies on the grid, and no difference of two points and no normal is larger than
 // the grid allows: that is kept with each value, so that nobody has to ask it again.
+// Points, rows and normals are three types, so that none is taken for another: each keeps its own bound, `limit`, `difference_size` or `minor_size`.
 ghost use Rattle.std.specs.Prelude.{[], ◌∷◌};
 ghost use Rattle.exact.specs.Grid.{limit};
 ghost use Rattle.exact.specs.Sizes.{Sized, difference_size, minor_size};
@@ -37,6 +38,14 @@ pub struct Normal {
     pub y: i64,
     pub z: i64,
     pub ghost of_grid: { Sized minor_size (x ∷ y ∷ z ∷ []) },
+}
+
+// Three numbers of any size.
+#[derive(Clone, Copy)]
+pub struct Vector {
+    pub x: i64,
+    pub y: i64,
+    pub z: i64,
 }
 
 // A triangle of the plane, or of space.

@@ -31,7 +31,8 @@ pub fn segment_meets_triangle(first: &[i32], second: &[i32]) -> bool
 
 // ---- two triangles in space, nine numbers each, which may be flat, in stages
 
-// The standing of t to the plane of u, which is known in doubles, by the estimate, where that can tell.
+// The standing of t to the plane of u, which is known in doubles, by the estimate, where that can tell. From 16 on the number tells nothing, as
+// `SeemsTo` has it: what asks it sorts without a branch.
 pub fn estimated_standing(t: &[i32], u: &[i32], plane: &[f64]) -> u32
     requires { Ready 9 t.now × Ready 9 u.now × IsPlane u.now plane.now }
     ensures { SeemsTo t.now u.now result }
@@ -55,7 +56,8 @@ pub fn low_standing(t: &[i32], u: &[i32], n: &[i64]) -> u32
     space::low_standing(&t[..], &u[..], normal_in(n))
 }
 
-// Whether they have a point in common, where s and r are their standings, and neither is beside the other's plane.
+// Whether they have a point in common, where s and r are their standings, and neither is beside the other's plane. A list and its standing stay two:
+// crate `deciding` has the lists in one row of numbers and the standings in another.
 pub fn meet_by_standings(narrow: bool, t: &[i32], s: u32, u: &[i32], r: u32) -> bool
     requires { Ready 9 t.now × Ready 9 u.now × BothNarrow narrow t.now u.now × Stood t.now u.now s r }
     ensures { Judges 3 3 3 t.now u.now result }
@@ -78,7 +80,7 @@ fn standing_to(t: &[i32], u: &[i32]) -> u32
 {
     let corners = space_triangle(&u[..]);
     let n = normal_of(corners);
-    if is_narrow(n) {
+    if is_narrow(n.vector()) {
         return space::low_standing(&t[..], &u[..], n);
     }
     let plane = plane_at(corners.p, corners.q, corners.r);
@@ -104,7 +106,8 @@ pub fn triangles_meet(first: &[i32], second: &[i32]) -> bool
 }
 
 // Writes the normal of a triangle, for those who ask of the same triangle often. Its numbers are stored one by one, and the plane's: `copy_from_slice`
-// from an array was tried, and a call on a plane took 7 ns more.
+// from an array was tried, and a call on a plane took 7 ns more. `put_normal` and `put_plane` are two: a row of whole numbers and one of doubles, each
+// found by another function.
 pub fn put_normal(normal: &mut [i64], corners: &[i32])
     requires { (length normal.old ≡ 3) × Ready 9 corners.now }
     ensures { normal.new ≡ normal_in corners.now }

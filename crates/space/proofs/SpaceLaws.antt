@@ -117,6 +117,10 @@ lists_hold k l nk nl = record { at_p = one 0; at_q = one 3; at_r = one 6 }
 pub level_told : {n : Point} (a b c d : Point) → n ≡ normal_of a b c → digit (sign (dot (row c d) n)) ≡ level a b c d
 level_told a b c d e = ap (λ (z : ℤ). digit (sign z)) (ap (dot (row c d)) e ∙ side_by_normal a b c d)
 
+-- What a low word tells of a vector, where the side is held, it tells of the normal that has the same numbers.
+pub low_told : {u v n : Point} {r : ℕ} → v ≡ n → (Holds u v → r ≡ digit (sign (dot u v))) → Holds u n → r ≡ digit (sign (dot u n))
+low_told {u} {r = r} e = subst (λ (p : Point). Holds u p → r ≡ digit (sign (dot u p))) e
+
 -- What the normal of a triangle tells: levels over its plane, the coordinate to drop, whether it is flat.
 module _ (t : Triangle SpacePoint) {n : Normal} (normal : IsNormal t n) where
   pub level_by_normal : {r : ℕ} (d : Point) → r ≡ digit (sign (dot (row (spatial t.r) d) (components n))) → r ≡ of_space level t d

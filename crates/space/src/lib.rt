@@ -1,8 +1,9 @@
 // The tests in space on the grid: how a triangle stands to another's plane, two triangles in one plane, two that each have a corner alone; and of a
 // segment and a triangle the ends over the plane, the edges that it passes, and both in one plane. Crate `wires` puts those of a segment together, and
-// those in one plane, with the shapes that may be flat; crate `kernel` the standings and the last signs of two triangles, which crate `deciding` asks in
-// stages. The crate is the inside of the calls and offers none itself: what is off the grid is refused before a point of it is made.
-// Triangles come as lent lists of numbers, as document 01 has it, and each function says of its lists that they are ready.
+// those in one plane, with the shapes that may be flat; crate `kernel` the standings of two triangles, and their last signs where these are exact. Crate
+// `deciding` asks for the estimate of the last signs here. The crate is the inside of the calls and offers none itself: what is off the grid is refused
+// before a point of it is made. Triangles come as lent lists of numbers, as document 01 has it, and each function says of its lists that they are ready:
+// a struct of a list and that fact would be made anew at each call, and mostly of a part of a longer list.
 #![tactic(auto)]
 
 mod meeting;

@@ -80,7 +80,7 @@ pub fn is_null(n: Normal) -> bool
     axis_of(n).is_none()
 }
 
-// Two triangles in the plane of the second, whose normal is n.
+// Two triangles in the plane of the second, whose normal is n: who asks has found it, to know whether the triangle is flat.
 pub fn meet_in_plane(t: SpaceTriangle, u: SpaceTriangle, n: Normal) -> bool
     requires { IsNormal u n }
     ensures { result ≡ of_spaces in_plane_test t u }

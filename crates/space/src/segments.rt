@@ -18,7 +18,7 @@ use plane::segment_meets_plane;
 
 // ---- the ends against the triangle's plane
 
-// Three times the level of p over the plane of t, and the level of q.
+// Three times the level of p over the plane of t, and the level of q. The two stay the digits of one number: see `segment_meets_any` of crate `wires`.
 fn levels_of_ends(p: SpacePoint, q: SpacePoint, t: SpaceTriangle) -> u32
     ensures { (result ≡ of_space (ends_over (spatial p) (spatial q)) t) × (result ≤ 8) }
 {
@@ -48,8 +48,8 @@ pub fn ends_over(first: &[i32], second: &[i32]) -> u32
 
 // ---- a segment that comes through the plane
 
-// Whether the segment p q from its higher end p passes no edge of the triangle on the outside. The plane through p, q and t.p serves two edges: the
-// sign of t.r over it is the opposite of that of t.p over the plane through p, q and t.r.
+// Whether the segment p q from its higher end p passes no edge of the triangle on the outside. The plane through p, q and t.p serves two edges: the sign
+// of t.r over it is the opposite of that of t.p over the plane through p, q and t.r. The ends come one by one, since the higher is put first.
 fn passes_no_edge(p: SpacePoint, q: SpacePoint, t: SpaceTriangle) -> bool
     ensures { result ≡ of_space (past_no_edge (spatial p) (spatial q)) t }
 {
@@ -85,7 +85,7 @@ pub fn passes(first: &[i32], high: usize, second: &[i32]) -> bool
 
 // ---- a segment in the plane
 
-// Whether a segment in the plane of a triangle that is not flat, whose normal is n, meets it.
+// Whether a segment in the plane of a triangle that is not flat, whose normal is n, meets it. Who asks has found the normal, to know that.
 pub fn segment_meets_in_plane(first: &[i32], second: &[i32], n: Normal) -> bool
     requires { Ready 6 first.now × Ready 9 second.now × (components n ≡ normal_in second.now) }
     ensures { result ≡ of_segment segment_in_plane_test first.now second.now }

@@ -15,7 +15,9 @@ use estimates::{estimate_of, is_below};
 use exact::{Normal, Triangle, level_over, low_level, normal_at, plane_at, rough_of, space_point};
 
 // The places in a triangle's list of nine numbers where its corners stand in the order that is asked for: its standing s tells the turns, and the
-// standing r of the other whether the last two are swapped. They are computed: the compiler would build a table anew for each question.
+// standing r of the other whether the last two are swapped. They are computed: the compiler would build a table anew for each question. They are three,
+// as `first_place`, `second_place` and `third_place` of specs/Spaces.antt are. Standings come from rows of numbers (crate `deciding`), so that none
+// keeps what is known of it, and each function asks that they are numbered.
 fn first_place(s: u32) -> usize
     requires { Numbered s }
     ensures { (result ≡ first_place s) × (result ≤ 6) }
@@ -57,12 +59,12 @@ fn low_signs(t: SpaceTriangle, m: Normal, u: SpaceTriangle, n: Normal) -> bool
     requires { (components m ≡ normal_of (spatial t.p) (spatial t.q) (spatial u.p)) × (components n ≡ normal_of (spatial t.p) (spatial t.r) (spatial u.r)) × Holds (row (spatial u.p) (spatial u.q)) (components m) × Holds (row (spatial u.r) (spatial u.p)) (components n) }
     ensures { result ≡ of_spaces last_signs t u }
 {
-    let one = low_level(u.p, m, u.q);
-    let two = low_level(u.r, n, u.p);
+    let one = low_level(u.p, m.vector(), u.q);
+    let two = low_level(u.r, n.vector(), u.p);
     (one != 2) & (two != 2)
 }
 
-// The same of any sides.
+// The same of any sides. Beside `low_signs` it stays, as `exact_pattern` does beside `low_pattern`.
 fn exact_signs(t: SpaceTriangle, m: Normal, u: SpaceTriangle, n: Normal) -> bool
     requires { (components m ≡ normal_of (spatial t.p) (spatial t.q) (spatial u.p)) × (components n ≡ normal_of (spatial t.p) (spatial t.r) (spatial u.r)) }
     ensures { result ≡ of_spaces last_signs t u }
@@ -72,8 +74,8 @@ fn exact_signs(t: SpaceTriangle, m: Normal, u: SpaceTriangle, n: Normal) -> bool
     (first != 2) & (second != 2)
 }
 
-// By the estimate: 1 where the triangles meet, 0 where they don't, and from 2 on the number tells nothing. It is a number since `SeemToMeet` of crate
-// `kernel` speaks of one, by which crate `deciding` asks it without a branch.
+// By the estimate: 1 where the triangles meet, 0 where they don't, and from 2 on the number tells nothing. It is a number, as `Crosses` of
+// specs/Spaces.antt has it, so that it is asked without a branch.
 fn estimated_signs(t: SpaceTriangle, u: SpaceTriangle) -> u32
     ensures { Crosses (of_spaces last_signs t u) result }
 {

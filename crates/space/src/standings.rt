@@ -20,7 +20,8 @@ fn low_pattern(t: SpaceTriangle, u: SpaceTriangle, n: Normal) -> u32
     requires { IsNormal u n × Holds (row (spatial u.r) (spatial t.p)) (components n) × Holds (row (spatial u.r) (spatial t.q)) (components n) × Holds (row (spatial u.r) (spatial t.r)) (components n) }
     ensures { (result ≡ of_spaces pattern t u) × (result ≤ 26) }
 {
-    9 * low_level(u.r, n, t.p) + 3 * low_level(u.r, n, t.q) + low_level(u.r, n, t.r)
+    let v = n.vector();
+    9 * low_level(u.r, v, t.p) + 3 * low_level(u.r, v, t.q) + low_level(u.r, v, t.r)
 }
 
 // The same of any sides, where the plane of u is known in doubles, too. It is written out beside `low_pattern`, whose levels ask more of the corners: one
@@ -36,10 +37,11 @@ fn exact_pattern(t: SpaceTriangle, u: SpaceTriangle, n: Normal, plane: Plane) ->
 
 // The number of the standing that a pattern names; it is no enum, since the places of the corners are computed from it without a branch. It is 0 beside,
 // with all corners strictly on one side; 1 within, with all on the plane; or one corner is alone on its side. Then it is 4 and the turns that put that
-// corner first, and 4 more where the other triangle's last two corners have to be swapped. A digit of the pattern is 0 for a corner below the plane, 1 on it, 2 above it, and the first corner's counts nine; beside each arm stands a
-// sign for each corner. Each pattern with a corner alone has an arm of its own, since the compiler makes a table of them so: numbers that stand side
-// by side in one arm become ranges, which it compares one after the other, and no processor guesses those branches. For the same reason there is an
-// arm for what is no pattern, with a number that no other arm gives: the table then holds every pattern.
+// corner first, and 4 more where the other triangle's last two corners have to be swapped. A digit of the pattern is 0 for a corner below the plane, 1
+// on it, 2 above it, and the first corner's counts nine; beside each arm stands a sign for each corner. Each pattern with a corner alone has an arm of
+// its own, since the compiler makes a table of them so: numbers that stand side by side in one arm become ranges, which it compares one after the other,
+// and no processor guesses those branches. For the same reason there is an arm for what is no pattern, with a number that no other arm gives: the table
+// then holds every pattern.
 fn standing_of(pattern: u32) -> u32
     requires { pattern ≤ 26 }
     ensures { Stands pattern result }

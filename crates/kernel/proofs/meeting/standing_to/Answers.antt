@@ -9,4 +9,4 @@ pub low_standing-requires : goal.low_standing-requires
 low_standing-requires c =
     let p = c.requires in
     let is = c.normal_of-n.ensures.is ∙ space_at c.space_triangle-corners.ensures normal_of in
-    (p.0, p.1, is, normal_holds p.0 p.1 (subst (Sized narrow_size) is (c.is_narrow.ensures.yes c.if-is_narrow.true)))
+    (p.0, p.1, is, normal_holds p.0 p.1 (subst (Sized narrow_size) (c.vector.ensures ∙ is) (c.is_narrow.ensures.yes c.if-is_narrow.true)))
