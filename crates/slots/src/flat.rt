@@ -1,5 +1,5 @@
 // The slots of a plate in two flat arrays: read, written, and the slots of a part moved.
-ghost use Rattle.std.specs.Prelude.{◌≡◌, List, ℕ, suc, ◌<◌, length, slice_index_or, slice_set, MatchOption};
+ghost use Rattle.std.specs.Prelude.{◌≡◌, List, ℕ, suc, ◌≤◌, ◌<◌, length, slice_index_or, slice_set, MatchOption};
 ghost use Rattle.moving.specs.Moves.{steps};
 ghost use Rattle.slots.specs.Slots.{Slot, free};
 ghost use Rattle.shape.specs.Lists.{some, lowest};
@@ -15,6 +15,14 @@ use moving::{move_numbers, stay_on};
 pub struct Slots {
     pub coords: [i32; 576],
     pub marks: [u8; 64],
+}
+
+// The mark of a part.
+pub fn mark_for(part: usize) -> u8
+    requires { part ≤ 15 }
+    ensures { result ≡ suc part }
+{
+    (part + 1) as u8
 }
 
 impl Slots {

@@ -6,4 +6,4 @@ mod counting;
 mod flat;
 
 pub use counting::GridSlots;
-pub use flat::Slots;
+pub use flat::{Slots, mark_for};
