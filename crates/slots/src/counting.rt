@@ -25,10 +25,7 @@ impl<'a> GridSlots<'a> {
     {
         let p = self.slots.marks[i];
         let q = self.slots.marks[j];
-        if p == 0 || q == 0 || p == q {
-            return false;
-        }
-        triangles_meet(self.slots.numbers(i), self.slots.numbers(j))
+        p != 0 && q != 0 && p != q && triangles_meet(self.slots.numbers(i), self.slots.numbers(j))
     }
 
     // How many slots clash with a slot.
