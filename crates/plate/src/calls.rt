@@ -11,6 +11,7 @@ use reasons::{lift_checked, place_checked, shift_checked, thrice, undo_checked};
 use slots::{Slots, mark_for};
 
 // The plate after a call, and what the call found: nothing to refuse, or why it refused.
+// A struct and no `Result` of a plate alone: `Promise` says what the plate is after a refusal, too.
 #[derive(Clone, Copy)]
 pub struct PlateAnswer {
     pub plate: Plate,
