@@ -29,7 +29,7 @@ pub enum Reason {
 }
 
 impl Reason {
-    // Its number in the tables of documents 01 and 02.
+    // Its number in the tables of documents 01 and 02. Arm by arm, as those tables are read.
     pub fn number(self) -> u32
         ensures { result ≡ number_of_reason self }
     {
@@ -63,6 +63,7 @@ pub struct Refusal {
     pub place: usize,
 }
 
+// Each check is written out: what is asked and what is told stand in one place.
 impl Refusal {
     pub fn new(reason: Reason, side: u32, place: usize) -> Refusal
         ensures { told_refusal {A = Unit {0}} result ≡ refused (number_of_reason reason) side place }

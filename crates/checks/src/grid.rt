@@ -24,7 +24,7 @@ pub fn all_on(numbers: &[i32]) -> bool
 {
     let mut on = true;
     for z in numbers {
-        on = on & !off_grid(*z);
+        on &= !off_grid(*z);
     }
     on
 }

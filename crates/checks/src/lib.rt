@@ -1,5 +1,5 @@
-// The reasons for saying no that several calls share: refusal 3 of a list's length, 1 of numbers off the grid, 2 of flat shapes, each by
-// document 01's number, side and place. Like crate `kernel`, this is the inside of the calls: it offers none itself.
+// What a refusal is, with all sixteen reasons for one, and the checks that several calls share: refusal 3 of a list's length, 1 of numbers off
+// the grid, 2 of flat shapes. Like crate `kernel`, this is the inside of the calls: it offers none itself.
 #![tactic(auto)]
 
 mod answer;

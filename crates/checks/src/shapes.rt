@@ -46,7 +46,7 @@ pub fn flat_test_checked(first: &[i32], second: &[i32]) -> Result<(), Refusal>
     plane_triangles_checked(first, second)
 }
 
-// A call in space on a segment (two corners) or a triangle (three), and a triangle.
+// A call in space on a segment (two corners) or a triangle (three), and a triangle. `corners` is counted with: three numbers for each.
 pub fn in_space_checked(corners: usize, first: &[i32], second: &[i32]) -> Result<(), Refusal>
     requires { corners ≤ 3 }
     ensures { told_check result ≡ pair_checks takes_flat 3 corners 3 first.now second.now }

@@ -18,6 +18,7 @@ pub enum Entry {
     },
 }
 
+// What stands past the reach. A blank is no case of its own: past the reach no entry is read.
 pub fn blank_entry() -> Entry
     ensures { result ≡ blank }
 {

@@ -9,6 +9,7 @@ ghost use Rattle.std.specs.Fn.{FnReturnsAt, FnOnceReturnsAtMut};
 use crate::journal::{Entry, pushed, raised};
 use slots::Slots;
 
+// The plate. There is no heap: the journal has room for 32, and `reach` says how many stand.
 #[derive(Clone, Copy)]
 pub struct Plate {
     pub slots: Slots,

@@ -8,9 +8,10 @@ ghost use Rattle.plate.specs.Plates.{Stands, Promise};
 use checks::Refusal;
 use keeping::{Plate, blank_entry, changed, popped, restored, slid};
 use reasons::{lift_checked, place_checked, shift_checked, thrice, undo_checked};
-use slots::Slots;
+use slots::{Slots, mark_for};
 
 // The plate after a call, and what the call found: nothing to refuse, or why it refused.
+// A struct and no `Result` of a plate alone: `Promise` says what the plate is after a refusal, too.
 #[derive(Clone, Copy)]
 pub struct PlateAnswer {
     pub plate: Plate,
@@ -48,7 +49,7 @@ pub fn place(plate: Plate, slot: usize, part: usize, triangle: &[i32]) -> PlateA
 {
     match place_checked(&plate.slots, slot, part, triangle) {
         Ok(()) => PlateAnswer {
-            plate: changed(plate, slot, (part + 1) as u8, triangle),
+            plate: changed(plate, slot, mark_for(part), triangle),
             told: Ok(()),
         },
         Err(why) => refusal(plate, why),
@@ -74,7 +75,7 @@ pub fn shift(plate: Plate, part: usize, dx: i32, dy: i32, dz: i32) -> PlateAnswe
 {
     match shift_checked(&plate.slots, part, dx, dy, dz) {
         Ok(()) => PlateAnswer {
-            plate: slid(plate, (part + 1) as u8, thrice(dx, dy, dz)),
+            plate: slid(plate, mark_for(part), thrice(dx, dy, dz)),
             told: Ok(()),
         },
         Err(why) => refusal(plate, why),

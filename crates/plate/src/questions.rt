@@ -19,7 +19,7 @@ use keeping::Plate;
 use predicate::Verdict;
 use reasons::{part_checked, present_checked};
 use shells::is_open;
-use slots::{GridSlots, Slots};
+use slots::{GridSlots, Slots, mark_for};
 
 // How many pairs of slots clash. It is read, not counted.
 pub fn count(plate: Plate) -> u32
@@ -60,8 +60,8 @@ fn shells_verdict(slots: GridSlots<'_>, p: usize, q: usize) -> Result<Verdict, R
 {
     let mut first = [0; 576];
     let mut second = [0; 576];
-    let m = slots.gather_part((p + 1) as u8, &mut first);
-    let n = slots.gather_part((q + 1) as u8, &mut second);
+    let m = slots.gather_part(mark_for(p), &mut first);
+    let n = slots.gather_part(mark_for(q), &mut second);
     let first = &first[..9 * m];
     let second = &second[..9 * n];
     closed_checked(0, p, first)?;
@@ -77,7 +77,7 @@ fn present_verdict(slots: &Slots, p: usize, q: usize) -> Result<Verdict, Refusal
     if p == q {
         return Ok(Verdict::Apart);
     }
-    if slots.marks_strike((p + 1) as u8, (q + 1) as u8) {
+    if slots.marks_strike(mark_for(p), mark_for(q)) {
         return Ok(Verdict::Meeting);
     }
     match slots.on_grid() {

@@ -1,7 +1,6 @@
 -- What the checks of a change find together, from what they find one after the other: a check that was made refused, and then the checks after it
 -- aren't made, or it was fine. Assumes nothing.
-use Rattle.std.proofs.Common.{◌≡◌, sym, ◌∙◌, ℕ, ◌+◌, List, map}
-use native.Mathlib.Numerals.{add-one}
+use Rattle.std.proofs.Common.{◌≡◌, sym, ◌∙◌, ℕ, suc, List, map}
 use lib.IntN.{ℤ}
 use Rattle.checks.specs.Answers.{Check, fine, ◌then◌}
 use Rattle.slots.specs.Slots.{Slot, is_of}
@@ -16,8 +15,8 @@ use Rattle.reasons.specs.Rules.{slot_within, part_within, slot_free, slot_filled
 use Rattle.reasons.proofs.Placing.{placing, place_order, not_above, slot_is_within, part_is_within, placed_ready}
 
 -- The mark of a part is one more than its number, so the marks tell which parts are present.
-pub present : (S : List Slot) {marks : List ℕ} (q : ℕ) → marks ≡ map mark_of S → some (has_mark (q + 1)) marks ≡ some (is_of q) S
-present S q e = (λ i. some (has_mark (add-one q i)) (e i)) ∙ some_mark q S
+pub present : (S : List Slot) {marks : List ℕ} {mark : ℕ} (q : ℕ) → mark ≡ suc q → marks ≡ map mark_of S → some (has_mark mark) marks ≡ some (is_of q) S
+present S q f e = (λ i. some (has_mark (f i)) (e i)) ∙ some_mark q S
 
 pub place_found : {marks : List ℕ} {s q : ℕ} {l : List ℤ} {found first : Check} → first ≡ placing s q l →
     ((S : List Slot) → marks ≡ map mark_of S → found ≡ (first then slot_free S s)) → (found ≡ fine → first ≡ fine) → PlaceFound marks s q l found

@@ -12,7 +12,7 @@ ghost use Rattle.reasons.specs.Rules.{slot_within, part_within, slot_free, slot_
 
 use checks::{Reason, Refusal, length_checked, shape_checked};
 use kernel::Kind;
-use slots::Slots;
+use slots::{Slots, mark_for};
 
 // Refusal 6.
 fn slot_checked(slot: usize) -> Result<(), Refusal>
@@ -61,7 +61,7 @@ pub fn present_checked(side: u32, slots: &Slots, part: usize) -> Result<(), Refu
     requires { part ≤ 15 }
     ensures { (S : List Slot) → slots.now.marks ≡ map mark_of S → told_check result ≡ part_present side S part }
 {
-    if !slots.has_mark((part + 1) as u8) {
+    if !slots.has_mark(mark_for(part)) {
         return Err(Refusal::new(Reason::PartAbsent, side, part));
     }
     Ok(())
@@ -72,7 +72,7 @@ fn stays_checked(slots: &Slots, part: usize, by: &[i32; 9]) -> Result<(), Refusa
     requires { part ≤ 15 }
     ensures { (S : List Slot) → Shown S slots.now.coords slots.now.marks → told_check result ≡ part_stays S part by.now }
 {
-    match slots.lowest_leaving((part + 1) as u8, by) {
+    match slots.lowest_leaving(mark_for(part), by) {
         Some(slot) => Err(Refusal::new(Reason::LeavesGrid, 0, slot)),
         None => Ok(()),
     }

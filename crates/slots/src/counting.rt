@@ -25,10 +25,7 @@ impl<'a> GridSlots<'a> {
     {
         let p = self.slots.marks[i];
         let q = self.slots.marks[j];
-        if p == 0 || q == 0 || p == q {
-            return false;
-        }
-        triangles_meet(self.slots.numbers(i), self.slots.numbers(j))
+        p != 0 && q != 0 && p != q && triangles_meet(self.slots.numbers(i), self.slots.numbers(j))
     }
 
     // How many slots clash with a slot.
@@ -44,6 +41,7 @@ impl<'a> GridSlots<'a> {
     }
 
     // The clashes of all slots with this mark.
+    // Added up here: `cross` adds slot by slot, and a sum after `map` would need its bound again.
     fn part_clashes(self, mark: u8) -> u32
         ensures { (S : List Slot) → Shown S self.entry.slots.now.coords self.entry.slots.now.marks → result ≡ cross mark S S }
     {
@@ -72,6 +70,8 @@ impl<'a> GridSlots<'a> {
     }
 
     // Copies the numbers of each slot of a mark, one slot after the other, to the front of a list, and tells how many slots there are.
+    // There is no heap: the room is the caller's, and how much of it is filled is told.
+    // `many` is counted: how many slots have the mark is known at the end, and is what is told.
     pub fn gather_part(self, mark: u8, triangles: &mut [i32; 576]) -> usize
         requires { Ready 576 triangles.old }
         ensures { Gathered self.entry.slots.now.coords self.entry.slots.now.marks mark triangles.new result }
@@ -115,7 +115,7 @@ impl Slots {
         self.on_grid().map_or(0, |on| on.part_clashes(mark))
     }
 
-    // Whether some slot of the first mark clashes with some slot of the second.
+    // Whether some slot of the first mark clashes with some slot of the second. A match: `is_some_and` was tried, and its proof didn't close.
     pub fn marks_strike(&self, first: u8, second: u8) -> bool
         ensures { (S : List Slot) → Shown S self.now.coords self.now.marks → result ≡ marks_strike first second S }
     {

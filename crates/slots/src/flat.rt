@@ -1,5 +1,5 @@
 // The slots of a plate in two flat arrays: read, written, and the slots of a part moved.
-ghost use Rattle.std.specs.Prelude.{◌≡◌, List, ℕ, suc, ◌<◌, length, slice_index_or, slice_set, MatchOption};
+ghost use Rattle.std.specs.Prelude.{◌≡◌, List, ℕ, suc, ◌≤◌, ◌<◌, length, slice_index_or, slice_set, MatchOption};
 ghost use Rattle.moving.specs.Moves.{steps};
 ghost use Rattle.slots.specs.Slots.{Slot, free};
 ghost use Rattle.shape.specs.Lists.{some, lowest};
@@ -11,10 +11,21 @@ ghost use Rattle.slots.specs.Showing.{nine_at, FitSlot, Shown, PartMoved};
 use moving::{move_numbers, stay_on};
 
 // Slot i has the nine coordinates from 9 * i on (zeros where it is empty), and the mark i: 0 where it is empty, else its part number plus one.
+// The marks are numbers, 0 for none, since document 01 has a plate of flat arrays of coordinates and part numbers.
+// A slot's number is a `usize` as in the calls: each method asks that it is one.
+// It has no model: not each value of the struct shows slots (`Shown`), and so each clause speaks of those that it does.
 #[derive(Clone, Copy)]
 pub struct Slots {
     pub coords: [i32; 576],
     pub marks: [u8; 64],
+}
+
+// The mark of a part.
+pub fn mark_for(part: usize) -> u8
+    requires { part ≤ 15 }
+    ensures { result ≡ suc part }
+{
+    (part + 1) as u8
 }
 
 impl Slots {
@@ -45,6 +56,7 @@ impl Slots {
     }
 
     // Moves every slot of a mark.
+    // The slots are counted: of what `chunks_exact_mut` lends only the length is known once it is written.
     pub fn move_part(&mut self, mark: u8, by: &[i32; 9], back: bool)
         ensures coords { PartMoved self.old.coords self.old.marks mark (steps back by.now) self.new.coords }
         ensures marks { self.new.marks ≡ self.old.marks }

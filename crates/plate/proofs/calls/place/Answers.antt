@@ -1,6 +1,5 @@
 -- `plate::calls::place` meets its contract: where the checks find a reason the plate stays, and else the slot is filled. Assumes nothing.
 use mathlib.Core.Path.{refl, sym}
-use native.Mathlib.Numerals.{add-one}
 use native.Mathlib.Omega.{arith}
 use Rattle.slots.specs.Slots.{held}
 use Rattle.slots.specs.Changes.{apply}
@@ -8,11 +7,8 @@ use Rattle.plate.specs.Histories.{run}
 use Rattle.plate.proofs.Outcomes.{shown, change_refused, change_made}
 use Rattle.plate.proofs.calls.place.Goals as goal
 
-pub overflow_add-part : goal.overflow_add-part
-overflow_add-part c = record { fits = omega (arith, c.in-Ok.ensures.part_is_within refl) }
-
-pub overflow_cast-part : goal.overflow_cast-part
-overflow_cast-part c = record { fits = omega (arith, c.in-Ok.ensures.part_is_within refl) }
+pub mark_for-requires : goal.mark_for-requires
+mark_for-requires c = omega (arith, c.in-Ok.ensures.part_is_within refl)
 
 pub changed-requires : goal.changed-requires
 changed-requires c = (omega (arith, c.in-Ok.ensures.slot_is_within refl), (c.in-Ok.ensures.ready refl).long)
@@ -28,5 +24,5 @@ returns-in-Ok c = record {
   kept = λ before st.
       let found = c.in-Ok.ensures in
       change_made (run before) _ _ _ (sym (found.rule _ st.parts)) refl
-      (c.changed.ensures.is (held _ _) (shown before st) (found.ready refl) (add-one _) refl);
+      (c.changed.ensures.is (held _ _) (shown before st) (found.ready refl) c.mark_for.ensures refl);
 }

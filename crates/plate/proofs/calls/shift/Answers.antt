@@ -1,8 +1,6 @@
 -- `plate::calls::shift` meets its contract: where the checks find a reason the plate stays, and else the part is moved. Assumes nothing.
 use mathlib.Core.Path.{◌≡◌, refl, sym, ◌∙◌, subst}
 use mathlib.Core.List.{List}
-use Prim.Native.Nat.{◌+◌}
-use native.Mathlib.Numerals.{add-one}
 use native.Mathlib.Omega.{arith}
 use lib.IntN.{ℤ}
 use mir.Facts.{to_z-of_z}
@@ -16,11 +14,8 @@ use Rattle.plate.proofs.Fits.{change_fits}
 use Rattle.plate.proofs.Outcomes.{shown, change_refused, change_made}
 use Rattle.plate.proofs.calls.shift.Goals as goal
 
-pub overflow_add-part : goal.overflow_add-part
-overflow_add-part c = record { fits = omega (arith, c.in-Ok.ensures.part_is_within refl) }
-
-pub overflow_cast-part : goal.overflow_cast-part
-overflow_cast-part c = record { fits = omega (arith, c.in-Ok.ensures.part_is_within refl) }
+pub mark_for-requires : goal.mark_for-requires
+mark_for-requires c = omega (arith, c.in-Ok.ensures.part_is_within refl)
 
 -- The steps as they are stored are those that were given, and so what was found is what the rule finds.
 pub returns-in-Err : goal.returns-in-Err
@@ -46,7 +41,7 @@ returns-in-Ok c = record {
       let found : fine ≡ change_checks S (shift a.part a.dx a.dy a.dz) =
       c.in-Ok.ensures.rule S h.slots
       ∙ (λ i. change_checks S (shift a.part (to_z-of_z c.ranges.dx i) (to_z-of_z c.ranges.dy i) (to_z-of_z c.ranges.dz i))) in
-      let slid = subst (λ (m : List ℤ). Slid a.plate (a.part + 1) m c.slid.result) by c.slid.ensures in
+      let slid = subst (λ (m : List ℤ). Slid a.plate c.mark_for.result m c.slid.result) by c.slid.ensures in
       change_made (run before) _ _ _ (sym found) refl
-      (slid.is a.part h (add-one a.part) (change_fits S (shift a.part a.dx a.dy a.dz) h.slots.fit (sym found)));
+      (slid.is a.part h c.mark_for.ensures (change_fits S (shift a.part a.dx a.dy a.dz) h.slots.fit (sym found)));
 }

@@ -1,6 +1,5 @@
 -- `plate::questions::present_verdict` meets its contract: the same part, the skins, and then the shells. Assumes nothing.
 use Rattle.std.proofs.Common.{sym, ◌∙◌, subst, eq-eqb, ne_eqb}
-use native.Mathlib.Numerals.{add-one}
 use Rattle.slots.specs.Counting.{marks_strike}
 use Rattle.slots.specs.Showing.{Shown}
 use Rattle.slots.specs.declared.flat.Slots.{Slots}
@@ -12,12 +11,12 @@ returns-then-p-q c = λ S h. rw (eq-eqb c.args.p c.args.q c.if-p-q.true)
 
 pub returns-then-marks_strike : goal.returns-then-marks_strike
 returns-then-marks_strike c = λ S h.
-    let skins = sym (c.marks_strike.ensures S h ∙ (λ k. marks_strike (add-one c.args.p k) (add-one c.args.q k) S)) ∙ c.if-marks_strike.true in
+    let skins = sym (c.marks_strike.ensures S h ∙ (λ k. marks_strike (c.mark_for.ensures k) (c.mark_for-2.ensures k) S)) ∙ c.if-marks_strike.true in
     rw (ne_eqb c.args.p c.args.q c.if-p-q.false, skins)
 
 pub returns-in-Some : goal.returns-in-Some
 returns-in-Some c = λ S h.
-    let skins = sym (c.marks_strike.ensures S h ∙ (λ k. marks_strike (add-one c.args.p k) (add-one c.args.q k) S)) ∙ c.if-marks_strike.false in
+    let skins = sym (c.marks_strike.ensures S h ∙ (λ k. marks_strike (c.mark_for.ensures k) (c.mark_for-2.ensures k) S)) ∙ c.if-marks_strike.false in
     let on = subst (λ (s : Slots). Shown S s.coords s.marks) (sym c.in-Some.ensures) h in
     rw (ne_eqb c.args.p c.args.q c.if-p-q.false, skins) (c.shells_verdict.ensures S on)
 

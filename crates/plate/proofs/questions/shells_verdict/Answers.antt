@@ -1,6 +1,5 @@
 -- `plate::questions::shells_verdict` meets its contract: each way out tells what the shells and the corners of the two parts are found to be. Assumes nothing.
 use Rattle.std.proofs.Common.{◌≡◌, refl, ap, ◌∙◌, rules}
-use native.Mathlib.Numerals.{add-one}
 use Rattle.checks.specs.Answers.{served}
 use Rattle.checks.specs.Told.{told_refusal}
 use Rattle.predicate.specs.Told.{told_verdict}
@@ -20,20 +19,20 @@ either_inside-requires c = (front_on_grid c.gather_part-m.ensures, front_on_grid
 
 pub returns-in_err-closed_checked : goal.returns-in_err-closed_checked
 returns-in_err-closed_checked c = λ S h.
-    let first = front_gathered c.gather_part-m.ensures S c.args.p h (add-one c.args.p) in
+    let first = front_gathered c.gather_part-m.ensures S c.args.p h c.mark_for.ensures in
     let is : told_verdict c.from_residual.result ≡ told_refusal c.in_err-closed_checked.field-0.0 = search rules in
     by_shells S c.args.p c.args.q (c.in_err-closed_checked.ensures S first) refl is
 
 pub returns-in_err-closed_checked-2 : goal.returns-in_err-closed_checked-2
 returns-in_err-closed_checked-2 c = λ S h.
-    let first = front_gathered c.gather_part-m.ensures S c.args.p h (add-one c.args.p) in
-    let second = front_gathered c.gather_part-n.ensures S c.args.q h (add-one c.args.q) in
+    let first = front_gathered c.gather_part-m.ensures S c.args.p h c.mark_for.ensures in
+    let second = front_gathered c.gather_part-n.ensures S c.args.q h c.mark_for-2.ensures in
     let is : told_verdict c.from_residual-in_err-closed_checked-2.result ≡ told_refusal c.in_err-closed_checked-2.field-0.0 = search rules in
     by_shells S c.args.p c.args.q (c.in_ok-closed_checked.ensures S first) (c.in_err-closed_checked-2.ensures S second) is
 
 pub returns : goal.returns
 returns c = λ S h.
-    let first = front_gathered c.gather_part-m.ensures S c.args.p h (add-one c.args.p) in
-    let second = front_gathered c.gather_part-n.ensures S c.args.q h (add-one c.args.q) in
+    let first = front_gathered c.gather_part-m.ensures S c.args.p h c.mark_for.ensures in
+    let second = front_gathered c.gather_part-n.ensures S c.args.q h c.mark_for-2.ensures in
     by_shells S c.args.p c.args.q (c.in_ok-closed_checked.ensures S first) (c.in_ok-closed_checked-2.ensures S second)
     (ap served (c.from.ensures ∙ c.either_inside.ensures ∙ (λ i. either_inside (first i) (second i))))

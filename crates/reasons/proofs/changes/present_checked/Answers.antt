@@ -8,11 +8,11 @@ use Rattle.reasons.proofs.changes.present_checked.Goals as goal
 pub returns-then-not-has_mark : goal.returns-then-not-has_mark
 returns-then-not-has_mark c = λ S e.
     let q = c.args.part in
-    let absent : some (is_of q) S ≡ false = sym (present S q e) ∙ sym c.has_mark.ensures ∙ c.if-not-has_mark.true in
+    let absent : some (is_of q) S ≡ false = sym (present S q c.mark_for.ensures e) ∙ sym c.has_mark.ensures ∙ c.if-not-has_mark.true in
     rw absent c.new.ensures
 
 pub returns : goal.returns
 returns c = λ S e.
     let q = c.args.part in
-    let there : some (is_of q) S ≡ true = sym (present S q e) ∙ sym c.has_mark.ensures ∙ c.if-not-has_mark.false in
+    let there : some (is_of q) S ≡ true = sym (present S q c.mark_for.ensures e) ∙ sym c.has_mark.ensures ∙ c.if-not-has_mark.false in
     rw there
