@@ -5,7 +5,8 @@ ghost use Rattle.listing.specs.Writing.{word_pairs, told_by, Wrote};
 
 use words::Bits;
 
-// The pairs of a word whose bits are verdicts on i and the triangles from one on. Gives how many numbers it wrote, as all writers here do.
+// The pairs of a word whose bits are verdicts on i and the triangles from one on. Gives how many numbers it wrote, as all writers here do. The
+// place is counted, since it is what is given.
 fn put_word(out: &mut [u32], i: u32, from: u32, word: u64) -> usize
     requires { (from ≤ 1024) × (length (two_each (word_pairs i from 64 word)) ≤ length out.old) }
     ensures { Wrote (two_each (word_pairs i from 64 word)) out.old result out.new }
