@@ -204,7 +204,7 @@ module _ {s : Stances} {asked : ℕ} (alone : AllAlone s asked) where
         by_case (inr e) = near z e
 
     pub rest_posed : Numbering s asked → Numbering s close → Numbering s other
-    rest_posed first last = record { first = first.first; second = first.second; posed = λ z set. by_case z (rest_of z set) }
+    rest_posed first last = record { posed = λ z set. by_case z (rest_of z set) }
       where
         by_case : (z : ℕ) → (bit z asked ≡ true) ⊎ (bit z close ≡ true) → Paired s.pairs z
         by_case z (inl e) = first.posed z e

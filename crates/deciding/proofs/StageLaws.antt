@@ -97,4 +97,4 @@ sorting_ends so_far = (
 
 -- The pair of a place that is asked, and its numbers.
 pub faced : {s : Stances} {asked z : ℕ} → Numbering s asked → bit z asked ≡ true → z < 64 → Faced s z
-faced numbering set within = record { pair = numbering.posed _ set; first = omega (arith, numbering.first); second = omega (arith, numbering.second) }
+faced numbering set within = record { pair = numbering.posed _ set; within = within }

@@ -69,13 +69,10 @@ pub record SortedAt (p : Pairs) (standings : List ℕ) (z : ℕ) (kept other : B
 -- The pair of place z, with a number for each standing.
 pub record Faced (s : Stances) (z : ℕ) : Type 0 where
   pub pair : Paired s.pairs z
-  pub first : z < length s.first.now
-  pub second : z < length s.second.now
+  pub within : z < 64
 
--- The pairs of the places that are asked, with 64 numbers for standings.
+-- The pairs of the places that are asked.
 pub record Numbering (s : Stances) (asked : ℕ) : Type 0 where
-  pub first : length s.first.now ≡ 64
-  pub second : length s.second.now ≡ 64
   pub posed : Posed s.pairs asked
 
 -- The numbers of place z, or of all places that are asked, are those of standings.

@@ -15,7 +15,7 @@ use crate::verdicts::Stances;
 use boxes::{is_narrow, put_boxes, put_normals, put_planes};
 use sifting::put_candidates;
 
-// Two lists of triangles, and whether all numbers of both are small.
+// Two lists of triangles, and whether all numbers of both are small. Lists are whole beds, pairs are rows of them: `Pairs` alone is turned.
 #[derive(Clone, Copy)]
 struct Lists<'a> {
     narrow: bool,
@@ -66,7 +66,8 @@ fn decide_word_of(lists: &Lists, k: usize, candidates: u64) -> u64
     decide_word(&pairs, candidates)
 }
 
-// All words of two lists: each has its candidates, and gets their verdicts. Gives how many pairs meet.
+// All words of two lists: each has its candidates, and gets their verdicts. Gives how many pairs meet. Counted: the words before k are verdicts, and those from k
+// on candidates.
 fn decide_words(lists: &Lists, words: &mut [u64]) -> u64
     requires { Readied lists.now × (triangles lists.now.first.numbers.now * 16 ≤ length words.old) × MayMeetBelow lists.now.first.numbers.now lists.now.second.numbers.now words.old (triangles lists.now.first.numbers.now * 16) }
     ensures { VerdictsBelow lists.now.first.numbers.now lists.now.second.numbers.now words.new (triangles lists.now.first.numbers.now * 16) × (result ≡ ones_below (triangles lists.now.second.numbers.now) words.new (triangles lists.now.first.numbers.now * 16)) }

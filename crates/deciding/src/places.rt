@@ -11,7 +11,8 @@ pub struct Left {
     pub other: u64,
 }
 
-// A list of triangles, their normals and, unless the numbers are small, their planes in doubles.
+// A list of triangles, their normals and, unless the numbers are small, their planes in doubles. Rows of numbers, for the reason that `kept_standing` of
+// crate `space` gives.
 #[derive(Clone, Copy)]
 pub struct Bed<'a> {
     pub numbers: &'a [i32],
@@ -27,7 +28,8 @@ pub struct Row<'a> {
     pub step: usize,
 }
 
-// The pairs that the places of a word mean, a triangle of each of two rows, and whether all numbers of both lists are small.
+// The pairs that the places of a word mean, a triangle of each of two rows, and whether all numbers of both lists are small. The flag is found once for two lists,
+// and asked by each word.
 #[derive(Clone, Copy)]
 pub struct Pairs<'a> {
     pub narrow: bool,
@@ -44,7 +46,7 @@ impl<'a> Row<'a> {
         self.from + self.step * place as usize
     }
 
-    // Its nine numbers.
+    // Its nine numbers. Numbers, normals and planes each have their own row: their clauses ask for another length each.
     pub fn corners(&self, place: u32) -> &'a [i32]
         requires { index_of self.now place < triangles self.now.bed.numbers.now }
         ensures { result.now ≡ lined self.now place }

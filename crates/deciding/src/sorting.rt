@@ -1,5 +1,5 @@
 // The loop of a stage: it asks at each place of a word, the lowest first, and keeps what is answered as a number and as a bit in each of two words.
-ghost use Rattle.std.specs.Prelude.{◌≡◌, ℕ, true, ◌<◌, length, get_or};
+ghost use Rattle.std.specs.Prelude.{◌≡◌, ℕ, true, ◌<◌, get_or};
 ghost use Rattle.words.specs.Bits.{bit};
 ghost use Rattle.deciding.specs.Stages.{Clear, Told, Marked};
 
@@ -9,14 +9,13 @@ use words::{Bits, flag_at};
 // The numbers at the places that are asked, beside the pairs that are sorted already: one test tells which are kept, another which go to the others.
 #[inline(always)]
 pub fn sort_places<A: Fn(u32) -> u32, K: Fn(u32) -> bool, O: Fn(u32) -> bool>(
-    standings: &mut [u32],
+    standings: &mut [u32; 64],
     asked: u64,
     sorted: Left,
     ask: A,
     is_kept: K,
     is_other: O,
 ) -> Left
-    requires long { length standings.old ≡ 64 }
     requires clear { Clear asked sorted.kept × Clear asked sorted.other }
     requires askable { (z : ℕ) → z < 64 → bit z asked ≡ true → A.pre ask z }
     requires tests { K.IsAlwaysCallable is_kept × O.IsAlwaysCallable is_other }

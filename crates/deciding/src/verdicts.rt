@@ -16,11 +16,12 @@ use words::{Bits, flag_at};
 #[derive(Clone, Copy)]
 pub struct Stances<'a> {
     pub pairs: Pairs<'a>,
-    pub first: &'a [u32],
-    pub second: &'a [u32],
+    pub first: &'a [u32; 64],
+    pub second: &'a [u32; 64],
 }
 
-// Whether the estimate of the last two signs says that a pair meets.
+// Whether the estimate of the last two signs says that a pair meets. The answer is a number, as `SeemToMeet` of crate `kernel` has it, so that it is
+// asked without a branch.
 fn says_meeting(v: u32) -> bool
     ensures { result ≡ says_meeting v }
 {

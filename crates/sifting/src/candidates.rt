@@ -45,7 +45,8 @@ fn put_row(words: &mut [u64], sieve: &Sieve, rows: [usize; 6])
     }
 }
 
-// The candidates of the first boxes among the others, by a table.
+// The candidates of the first boxes among the others, by a table. The rows are counted: of what `chunks_exact_mut` lends only the length is known once it is
+// written.
 fn put_by_table(words: &mut [u64], bounds: &[i32], boxes: &[i32])
     requires { (length bounds.now / 6 ≤ 1024) × (6 ≤ length boxes.now) × (length boxes.now / 6 ≤ 1024) × (length bounds.now / 6 * 16 ≤ length words.old) }
     ensures { CandidatesBelow bounds.now boxes.now (length boxes.now / 6) words.new (length bounds.now / 6 * 16) }

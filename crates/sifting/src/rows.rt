@@ -7,7 +7,8 @@ use crate::tables::Sieve;
 
 impl Sieve {
     // The row of a mark of end e that a number is below, or the last. The marks rise, so that as many are passed as are not above the number; the next
-    // is looked at, so that nothing has to be known of their order. Without an exit the compiler looks at several marks at once.
+    // is looked at, so that nothing has to be known of their order. Without an exit the compiler looks at several marks at once: `filter`
+    // and `count` were tried, and took half as long again.
     fn row_of(&self, e: usize, number: i32) -> usize
         requires { e < 6 }
         ensures { RowFor self.now.marks e number result }

@@ -7,7 +7,8 @@ use crate::ends::end_at;
 use crate::marks::put_marks;
 use words::span_of;
 
-// What sifts the boxes of a list: 16 marks for each of the six ends, and a row of words for each mark and one more.
+// What sifts the boxes of a list: 16 marks for each of the six ends, and a row of words for each mark and one more. Flat, so that a row's
+// number is its place in both.
 #[derive(Drop)]
 pub struct Sieve {
     pub marks: [i32; 96],
@@ -51,7 +52,7 @@ impl Sieve {
     }
 }
 
-// A word whose lowest bits are set, so many of them.
+// A word whose lowest bits are set, so many of them. A shift by 64 is none: so the whole word is a case of its own.
 fn all_of(count: usize) -> u64
     requires { count ≤ 64 }
     ensures { result ≡ 2 ^ count - 1 }

@@ -1,6 +1,6 @@
 -- `deciding::sorting::sort_places` meets its contract: each turn asks at the lowest place. Assumes nothing.
 use mathlib.Core.Path.{subst}
-use Rattle.std.proofs.Common.{ℕ, arith}
+use Rattle.std.proofs.Common.{ℕ, arith, rules, ◌≡◌, length}
 use Rattle.words.proofs.LowestLaws.{lowest_is_set}
 use Rattle.words.proofs.Filling.{filled_fits}
 use Rattle.deciding.proofs.StageLaws.{Sorting, sorting_starts, sorting_on, sorting_ends}
@@ -9,7 +9,8 @@ use Rattle.deciding.proofs.sorting.sort_places.Goals as goal
 pub loop-z-init : goal.loop-z-init
 loop-z-init g c =
     let p = c.requires in
-    (tt, tt, rw c.into_iter-z-iterator.ensures.into_iter_gives (sorting_starts p.long p.clear.0 p.clear.1))
+    let long : length c.args.standings.now ≡ 64 = search rules in
+    (tt, tt, rw c.into_iter-z-iterator.ensures.into_iter_gives (sorting_starts long p.clear.0 p.clear.1))
 
 pub ask-s-requires : goal.ask-s-requires
 ask-s-requires g c =
