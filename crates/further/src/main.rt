@@ -25,7 +25,7 @@ fn turns(rt: &impl Print) -> io::Result<()> {
     rows(
         rt,
         turn,
-        "Further rows of the turn\n\
+        b"Further rows of the turn\n\
           to the right: 0 0 0 4 4 0\n\
           on a line: 0 0 2 2 5 5\n\
           equal points: 3 -1 3 -1 0 7\n\
@@ -45,7 +45,7 @@ fn sides(rt: &impl Print) -> io::Result<()> {
     rows(
         rt,
         side,
-        "Further rows of the side\n\
+        b"Further rows of the side\n\
           (0,0,0) (1,0,0) (0,1,0) (0,0,1): 0 0 0 1 0 0 0 1 0 0 0 1\n\
           in one plane: 0 0 0 1 0 0 0 1 0 5 7 0\n\
           all at an end of the grid: -1073741824 -1073741824 -1073741824 1073741824 -1073741824 -1073741824 -1073741824 -1073741824 1073741824 -1073741824 1073741824 -1073741824\n\
@@ -70,7 +70,7 @@ fn flats(rt: &impl Print) -> io::Result<()> {
     rows(
         rt,
         flat,
-        "Further rows of the flat test\n\
+        b"Further rows of the flat test\n\
           A; A: 0 0 4 0 0 4; 0 0 4 0 0 4\n\
           one corner: 0 0 4 0 0 4; 4 0 5 0 5 1\n\
           one edge: 0 0 4 0 0 4; 0 0 4 0 0 -4\n\
@@ -97,7 +97,7 @@ fn pairs(rt: &impl Print) -> io::Result<()> {
     rows(
         rt,
         pair,
-        "Further rows of the test in space\n\
+        b"Further rows of the test in space\n\
           a corner on the other's plane: 2 -2 3 1 1 3 2 4 -1; 2 1 1 -2 3 3 2 -3 -1\n\
           in one upright plane, one inside the other: 5 0 0 5 9 0 5 0 9; 5 1 1 5 2 1 5 1 2\n\
           in one upright plane, apart: 0 5 0 4 5 0 0 5 4; 3 5 3 5 5 3 3 5 5\n\
@@ -115,7 +115,7 @@ fn wires_on_a_triangle(rt: &impl Print) -> io::Result<()> {
     rows(
         rt,
         pair,
-        "Points and wires against A\n\
+        b"Points and wires against A\n\
           a point on a corner: 4 0 0 4 0 0 4 0 0; 0 0 0 4 0 0 0 4 0\n\
           a point on an edge: 2 2 0 2 2 0 2 2 0; 0 0 0 4 0 0 0 4 0\n\
           a point inside: 1 1 0 1 1 0 1 1 0; 0 0 0 4 0 0 0 4 0\n\
@@ -135,7 +135,7 @@ fn wires_and_points(rt: &impl Print) -> io::Result<()> {
     rows(
         rt,
         pair,
-        "Points and wires against each other\n\
+        b"Points and wires against each other\n\
           equal points: 5 -7 3 5 -7 3 5 -7 3; 5 -7 3 5 -7 3 5 -7 3\n\
           points one step apart: 5 -7 3 5 -7 3 5 -7 3; 5 -7 4 5 -7 4 5 -7 4\n\
           a point on a wire: 2 2 2 2 2 2 2 2 2; 0 0 0 4 4 4 1 1 1\n\
@@ -158,7 +158,7 @@ fn segments(rt: &impl Print) -> io::Result<()> {
     rows(
         rt,
         segment,
-        "Further rows of the segment test\n\
+        b"Further rows of the segment test\n\
           through A: 1 1 -1 1 1 1; 0 0 0 4 0 0 0 4 0\n\
           past A: 3 3 -1 3 3 1; 0 0 0 4 0 0 0 4 0\n\
           ending on an edge of A: 2 2 5 2 2 0; 0 0 0 4 0 0 0 4 0\n\
@@ -179,7 +179,7 @@ fn lists(rt: &impl Print) -> io::Result<()> {
     rows(
         rt,
         list,
-        "Further rows of the listing\n\
+        b"Further rows of the listing\n\
           no triangles, start 7: ; ; 7\n\
           no triangles, start 8: ; ; 8\n\
           one list empty: 0 0 0 4 0 0 0 4 0 1 1 1 2 1 1 1 2 1; ; 0\n\
@@ -213,7 +213,7 @@ fn place_number_refusals(rt: &impl Print) -> io::Result<Plate> {
     place_rows(
         rt,
         plate::empty(),
-        "A in slot 63 as part 15: 63 15; 0 0 0 4 0 0 0 4 0\n\
+        b"A in slot 63 as part 15: 63 15; 0 0 0 4 0 0 0 4 0\n\
           slot 64, part 16, 8 numbers: 64 16; 0 0 0 4 0 0 0 4\n\
           slot 2^64 - 1: 18446744073709551615 0; 0 0 0 4 0 0 0 4 0\n\
           a filled slot, part 16, 8 numbers: 63 16; 0 0 0 4 0 0 0 4\n\
@@ -226,7 +226,7 @@ fn place_list_refusals(rt: &impl Print, plate: Plate) -> io::Result<()> {
     place_rows(
         rt,
         plate,
-        "a filled slot, no numbers: 63 0;\n\
+        b"a filled slot, no numbers: 63 0;\n\
           a filled slot, 10 numbers, the first off the grid: 63 0; 1073741825 0 0 4 0 0 0 4 0 0\n\
           a filled slot, flat, positions 3 and 6 off the grid: 63 0; 0 0 0 1073741825 0 0 -1073741825 0 0\n\
           a filled slot, flat: 63 0; 0 0 0 1 1 1 2 2 2\n\
@@ -247,7 +247,7 @@ fn lifts(rt: &impl Print) -> io::Result<()> {
     plate = place_rows(
         rt,
         plate,
-        "A in slot 1 again, as part 0: 1 0; 0 0 0 4 0 0 0 4 0\n",
+        b"A in slot 1 again, as part 0: 1 0; 0 0 0 4 0 0 0 4 0\n",
     )?;
     plate = undo_row(rt, plate)?;
     undo_row(rt, plate)?;

@@ -11,5 +11,5 @@ mod tables;
 
 pub use answers::{Listed, Told, Valued, told_verdict};
 pub use calls::{flat, list, pair, segment, side, turn};
-pub use reading::{LONGEST, read_list};
+pub use reading::{LONGEST, List, read_count, read_list, until};
 pub use tables::{Lists, rows};

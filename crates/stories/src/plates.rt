@@ -1,8 +1,8 @@
 // Rows of the calls on a plate: what a call answered, and the plate afterwards, which a row gives back.
 use plate::{Plate, PlateAnswer};
-use printing::{LONGEST, Told, read_list, told_verdict};
+use printing::{Told, read_count, read_list, told_verdict, until};
 use std::fmt::{self, Display};
-use std::io::{self, ErrorKind};
+use std::io;
 
 // How a plate stands: its clash count, and how many changes undo can still take back.
 #[derive(Clone, Copy)]
@@ -45,28 +45,28 @@ fn plate_row(rt: &impl Print, name: impl Display + Drop, answer: PlateAnswer) ->
 }
 
 // A table of places as text, a line a row: its name and a colon, the slot and the part, and after a semicolon the triangle. Each row
-// is put to the plate that the row before gave back.
-pub fn place_rows(rt: &impl Print, mut plate: Plate, table: &str) -> io::Result<Plate> {
-    for line in table.lines() {
+// is put to the plate that the row before gave back. Any bytes are read as something.
+pub fn place_rows(rt: &impl Print, mut plate: Plate, table: &[u8]) -> io::Result<Plate> {
+    let mut rest = table;
+    while !rest.is_empty() {
+        let (line, behind) = rest.split_at(until(rest, 0, b'\n'));
         plate = place_row(rt, plate, line)?;
+        rest = behind.get(1..).unwrap_or(&[]);
     }
     Ok(plate)
 }
 
-// A row that can't be read is an error.
-fn place_row(rt: &impl Print, plate: Plate, line: &str) -> io::Result<Plate> {
-    let (name, numbers) = line.split_once(':').ok_or(ErrorKind::InvalidData)?;
-    let answer = placed(plate, numbers).ok_or(ErrorKind::InvalidData)?;
-    plate_row(rt, name, answer)
-}
-
-// Puts what stands behind the colon to the plate.
-fn placed(plate: Plate, text: &str) -> Option<PlateAnswer> {
-    let (places, list) = text.split_once(';')?;
-    let (slot, part) = places.trim().split_once(' ')?;
-    let mut room = [0; LONGEST];
-    let triangle = read_list(list, &mut room)?;
-    Some(plate::place(plate, slot.parse().ok()?, part.parse().ok()?, triangle))
+fn place_row(rt: &impl Print, plate: Plate, line: &[u8]) -> io::Result<Plate> {
+    let (name, numbers) = line.split_at(until(line, 0, b':'));
+    rt.write_all(name)?;
+    let (slot, behind) = read_count(numbers);
+    let (part, behind) = read_count(behind);
+    let list = read_list(behind);
+    plate_row(
+        rt,
+        "",
+        plate::place(plate, slot, part, &list.numbers[..list.count]),
+    )
 }
 
 pub fn lift_row(rt: &impl Print, plate: Plate, slot: usize) -> io::Result<Plate> {

@@ -1,0 +1,6 @@
+-- `stories::plates::place_rows` ends: what is left of the table grows shorter with each row. Assumes nothing.
+use Rattle.std.proofs.Common.{length}
+use Rattle.stories.proofs.plates.place_rows.Given as goal
+
+abbrev pub decreases-loop-rest : goal.decreases-loop-rest
+decreases-loop-rest g l = length l.rest
