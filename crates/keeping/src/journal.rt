@@ -5,16 +5,17 @@ ghost use Rattle.keeping.specs.Journal.{blank};
 
 #[derive(Clone, Copy)]
 pub enum Entry {
+    // Of a shift: the mark of its part, and the steps of the nine numbers of a triangle. A blank is one of mark 0 by nothing. It is the first
+    // case, so that a blank is nothing but zeros: else an empty plate took three times as long to make.
+    Shift {
+        mark: u8,
+        by: [i32; 9],
+    },
     // Of a place or a lift: the slot, with the mark and the numbers that stood there before.
     Stood {
         slot: usize,
         mark: u8,
         numbers: [i32; 9],
-    },
-    // Of a shift: the mark of its part, and the steps of the nine numbers of a triangle. A blank is one of mark 0 by nothing.
-    Shift {
-        mark: u8,
-        by: [i32; 9],
     },
 }
 

@@ -20,7 +20,7 @@ pub struct Plate {
 
 // The plate with its slots changed, and the count with them: what `clashes` counts is what the change touches.
 fn recounted<C: Fn(&Slots) -> u32, E: FnOnce(&mut Slots)>(
-    plate: Plate,
+    mut plate: Plate,
     clashes: C,
     change: E,
 ) -> Plate
@@ -28,16 +28,11 @@ fn recounted<C: Fn(&Slots) -> u32, E: FnOnce(&mut Slots)>(
     requires change { E.IsAlwaysCallable change }
     ensures { Recounted plate (FnReturnsAt C.Fn clashes) (FnOnceReturnsAtMut E.FnOnce change) result }
 {
-    let mut slots = plate.slots;
-    let less = clashes(&slots);
-    change(&mut slots);
-    let more = clashes(&slots);
-    let count = plate.count.wrapping_sub(less).wrapping_add(more);
-    Plate {
-        slots,
-        count,
-        ..plate
-    }
+    let less = clashes(&plate.slots);
+    change(&mut plate.slots);
+    let more = clashes(&plate.slots);
+    plate.count = plate.count.wrapping_sub(less).wrapping_add(more);
+    plate
 }
 
 // Writes a slot.
@@ -64,14 +59,13 @@ fn nudged(plate: Plate, mark: u8, by: &[i32; 9], back: bool) -> Plate
 }
 
 // Notes an entry in the journal.
-fn noted(plate: Plate, latest: Entry) -> Plate
+fn noted(mut plate: Plate, latest: Entry) -> Plate
     ensures { Noted plate latest result }
 {
-    Plate {
-        journal: pushed(plate.journal, latest),
-        reach: raised(plate.reach),
-        ..plate
-    }
+    let journal = pushed(plate.journal, latest);
+    plate.journal = journal;
+    plate.reach = raised(plate.reach);
+    plate
 }
 
 // Writes a slot and notes what stood there.
