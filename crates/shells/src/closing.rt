@@ -1,13 +1,14 @@
 // Whether the shell of triangles is open: some directed edge does not occur once, or its reverse does not. Triangles stand in a list, nine numbers
 // each.
-ghost use Rattle.std.specs.Prelude.{◌≡◌, not, ◌/◌, length, [], ◌∷◌};
+ghost use Rattle.std.specs.Prelude.{◌≡◌, not, ◌≤◌, ◌/◌, length, [], ◌∷◌};
+ghost use Rattle.shape.specs.Points.{point_at};
 ghost use Rattle.shape.specs.Lists.{some, held_by};
-ghost use Rattle.shape.specs.Shells.{reverse, edges_of, occurs, is_closed};
+ghost use Rattle.shape.specs.Shells.{same_point, reverse, edges_of, occurs, is_closed};
 ghost use Rattle.shape.specs.TriangleLists.{triangle_of, triangles_in, triangles_of};
-ghost use Rattle.shells.specs.Opening.{directed, edge_open};
+ghost use Rattle.shells.specs.Opening.{corner, directed, edge_open};
 
 // A corner of a triangle.
-#[derive(Clone, Copy, PartialEq, Eq)]
+#[derive(Clone, Copy)]
 struct Corner {
     x: i32,
     y: i32,
@@ -15,7 +16,7 @@ struct Corner {
 }
 
 // A directed edge: where it begins, and where it ends.
-#[derive(Clone, Copy, PartialEq, Eq)]
+#[derive(Clone, Copy)]
 struct Edge {
     from: Corner,
     to: Corner,
@@ -59,12 +60,23 @@ fn edges_of(triangle: &[i32; 9]) -> (Edge, Edge, Edge)
     )
 }
 
+// Whether the corner that begins at a position of a triangle is this one. The numbers are read in turn, the last first, and mostly that one tells:
+// edges that are built first and compared by `==` are compared whole, and a question of two shells took a fifth to a third longer.
+fn is_at(triangle: &[i32; 9], at: usize, wanted: Corner) -> bool
+    requires { at ≤ 6 }
+    ensures { result ≡ same_point (corner wanted) (point_at 3 at triangle.now) }
+{
+    wanted.z == triangle[at + 2] && wanted.y == triangle[at + 1] && wanted.x == triangle[at]
+}
+
 // How often an edge occurs in a triangle.
 fn times_in(triangle: &[i32; 9], edge: Edge) -> usize
     ensures { result ≡ occurs (directed edge) (edges_of (triangle_of triangle.now)) }
 {
-    let (first, second, third) = edges_of(triangle);
-    (edge == first) as usize + (edge == second) as usize + (edge == third) as usize
+    let first = is_at(triangle, 0, edge.from) && is_at(triangle, 3, edge.to);
+    let second = is_at(triangle, 3, edge.from) && is_at(triangle, 6, edge.to);
+    let third = is_at(triangle, 6, edge.from) && is_at(triangle, 0, edge.to);
+    first as usize + second as usize + third as usize
 }
 
 // How often it occurs in all.
