@@ -36,7 +36,9 @@ pub fn pair(lists: Lists<'_>) -> Told<&'static str> {
     told_verdict(predicate::pair_verdict(lists.first, lists.second))
 }
 
-// A listing into a buffer of seven numbers, each 99 before.
+// A listing into a buffer of seven numbers, each 99 before. A call of its own, so that the room of a listing is given back before the next row: within
+// its caller it lay under all that the program does later, and `bench` took a third more stack.
+#[inline(never)]
 pub fn list(lists: Lists<'_>) -> Listed {
     let mut buffer = [99; 7];
     let pairs = Told {
