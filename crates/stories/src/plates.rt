@@ -47,6 +47,7 @@ fn plate_row(rt: &impl Print, name: impl Display + Drop, answer: PlateAnswer) ->
 // A table of places as text, a line a row: its name and a colon, the slot and the part, and after a semicolon the triangle. Each row
 // is put to the plate that the row before gave back. Any bytes are read as something.
 pub fn place_rows(rt: &impl Print, mut plate: Plate, table: &[u8]) -> io::Result<Plate> {
+    // Rows are taken off the front: the library's `lines` is for text, and a table may be any bytes.
     let mut rest = table;
     while !rest.is_empty() {
         let (line, behind) = rest.split_at(until(rest, 0, b'\n'));
