@@ -69,6 +69,29 @@ unfolding row
 row≤ x [] = omega arith
 row≤ x (y ∷ S) = omega (arith, hit≤ x y, row≤ x S)
 
+row_take : (x : Slot) (S : List Slot) (j : ℕ) → j < length S → row x (take (suc j) S) ≡ row x (take j S) + hit x (get_or S j free)
+unfolding row
+row_take x [] j h = omega arith
+row_take x (y ∷ S) zero h = omega arith
+row_take x (y ∷ S) (suc j) h = omega (arith, row_take x S j (omega arith))
+
+-- The clashes with the first slots, and with one more, also one that is known not to clash.
+pub row_more : (x : Slot) (S : List Slot) (j : ℕ) {n : ℕ} {b : Bool} → j < length S → n ≡ row x (take j S) → b ≡ strikes x (get_or S j free) →
+    n + bool_byte b ≡ row x (take (j + 1) S)
+unfolding hit
+row_more x S j h e f =
+    (λ i. e i + bool_byte (f i)) ∙ sym (row_take x S j h) ∙ ap (λ (k : ℕ). row x (take k S)) (sym (add-one j))
+
+pub row_none : (x : Slot) (S : List Slot) (j : ℕ) {n : ℕ} → j < length S → n ≡ row x (take j S) → strikes x (get_or S j free) ≡ false →
+    n ≡ row x (take (j + 1) S)
+unfolding hit
+row_none x S j h e apart =
+    let none : hit x (get_or S j free) ≡ 0 = ap bool_byte apart in
+    e ∙ omega (arith, none, row_take x S j h) ∙ ap (λ (k : ℕ). row x (take k S)) (sym (add-one j))
+
+pub row_all : (x : Slot) (S : List Slot) (j : ℕ) → length S ≤ j → row x (take j S) ≡ row x S
+row_all x S j h = ap (row x) (take_all j S h)
+
 row_out : (y : Slot) (S : List Slot) (i : ℕ) → i < length S → row y S ≡ hit y (get_or S i free) + row y (set S i free)
 unfolding row
 row_out y [] i h = omega arith

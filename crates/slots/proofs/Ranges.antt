@@ -1,6 +1,6 @@
 -- What code finds in the range of the 64 slots it finds in the list of them. Assumes nothing.
 use Rattle.std.proofs.Common.{◌≡◌, refl, sym, ap, ◌∙◌, Bool, true, false, cond, ◌||◌, ℕ, suc, ◌+◌, ◌<◌, List, [], ◌∷◌, length, get_or, arith}
-use Rattle.std.specs.List.{list_any, filter, range_with_len}
+use Rattle.std.specs.List.{list_any, range_with_len}
 use borrow.Author.Tests.{eq-eqb, ne_eqb}
 use Rattle.std.proofs.Common.{ℤ}
 use Rattle.std.proofs.Common.{◌≤◌, Option, Some, None, MatchOption}
@@ -9,8 +9,6 @@ use Rattle.shape.proofs.ListLaws.{lowest_at, lowest_none}
 use Rattle.slots.specs.Slots.{Slot, free}
 use Rattle.slots.specs.Arrays.{mark_of}
 use lib.Dec.{eqb}
-use mir.Val.{bool_byte}
-use Rattle.slots.specs.Counting.{strikes, hit, row}
 use Rattle.slots.specs.Showing.{Shown}
 use Rattle.slots.proofs.Arrays.{mark_is}
 
@@ -53,29 +51,6 @@ any_is_some test (x ∷ l) = either (test x) ∙ ap (λ (b : Bool). cond (test x
     either : (b : Bool) → (b || list_any test l) ≡ cond b true (list_any test l)
     either true = refl
     either false = refl
-
--- How many slots clash with one.
-row_range : (x : Slot) (l : List Slot) (a : ℕ) (at : ℕ → Bool) → ((j : ℕ) → at (a + j) ≡ strikes x (get_or l j free)) →
-    length (filter at (range_with_len a (length l))) ≡ row x l
-unfolding row hit
-row_range x [] a at is = refl
-row_range x (y ∷ l) a at is =
-    number (at a) ∙ (λ i. bool_byte (first i) + row_range x l (a + 1) at (λ j. ap at (omega arith) ∙ is (suc j)) i)
-  where
-    first : at a ≡ strikes x y
-    first = ap at (omega arith) ∙ is 0
-
-    rest : List ℕ
-    rest = filter at (range_with_len (a + 1) (length l))
-
-    number : (b : Bool) → length (cond b (a ∷ rest) rest) ≡ bool_byte b + length rest
-    number true = omega arith
-    number false = omega arith
-
-pub row_in_range : (x : Slot) (S : List Slot) (n : ℕ) → length S ≡ n → length (filter (λ j. strikes x (get_or S j free)) (range_with_len 0 n)) ≡ row x S
-row_in_range x S n long =
-    ap (λ (m : ℕ). length (filter (λ j. strikes x (get_or S j free)) (range_with_len 0 m))) (sym long)
-    ∙ row_range x S 0 (λ j. strikes x (get_or S j free)) (λ j. ap (λ (k : ℕ). strikes x (get_or S k free)) (omega arith))
 
 -- ---- a test of a slot that asks its mark first
 module _ {S : List Slot} {coords : List ℤ} {parts : List ℕ} (h : Shown S coords parts) (mark j : ℕ) (v : Bool) where
