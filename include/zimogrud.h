@@ -60,7 +60,7 @@
  * as many numbers or bytes as the length beside it says, and `text` of zg_sheet for ZG_SHEET_TEXT_LENGTH (174768) bytes: for
  * reading and, at `answer`, `answers`, `buffer` and `text`, for writing; not null and aligned also where the length is 0. Bytes
  * need no alignment. These four overlap neither each other nor any of the other lists, and nothing else writes to any of them
- * during the call. zg_list takes some 296 kilobytes of stack, whatever its lists, zg_plate some 87 and zg_sheet some 73; the
+ * during the call. zg_list takes some 296 kilobytes of stack, whatever its lists, zg_plate some 87 and zg_sheet some 68; the
  * other calls take little. The processor rounds doubles to nearest and an inexact result raises no signal, as it is in every
  * thread of a C or Rust program that has not changed it (fesetround, feenableexcept): an estimate in doubles tells signs, and
  * it is proved for that way of rounding only.

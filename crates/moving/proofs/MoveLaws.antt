@@ -1,4 +1,4 @@
--- Numbers moved by steps: the list that comes out, and the way back; and one sum as the code makes and tests it. Assumes nothing.
+-- Numbers moved by steps: the list that comes out, and the way back; and one sum as the machine reads it. Assumes nothing.
 use Rattle.std.proofs.Common.{◌≡◌, refl, sym, ap, ◌∙◌, Bool, true, false, cond, ℕ, zero, suc, List, [], ◌∷◌, length, get_or, ℤ, pos, neg_ℤ, ◌+ℤ◌, w32, FitsSigned, to_z, of_z, arith}
 use mir.Facts.{to_z-of_z}
 use Rattle.std.proofs.Common.{◌&&◌}

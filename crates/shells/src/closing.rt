@@ -61,7 +61,7 @@ fn edges_of(triangle: &[i32; 9]) -> (Edge, Edge, Edge)
 }
 
 // Whether the corner that begins at a position of a triangle is this one. The numbers are read in turn, the last first, and mostly that one tells:
-// edges that are built first and compared by `==` are compared whole, and a question of two shells took a fifth to a third longer.
+// edges that are built first and compared by `==` are compared whole, and a question of two shells took up to 2.4 times as long.
 fn is_at(triangle: &[i32; 9], at: usize, wanted: Corner) -> bool
     requires { at ≤ 6 }
     ensures { result ≡ same_point (corner wanted) (point_at 3 at triangle.now) }

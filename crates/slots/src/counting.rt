@@ -29,7 +29,8 @@ impl<'a> GridSlots<'a> {
     }
 
     // How many slots clash with a slot.
-    // Its own part is passed over by a test of its own: those of `strikes` the compiler joins, and then a part of many slots takes longer.
+    // Its own part is passed over by a test of its own, and what `strikes` says is added: a `filter` that is counted has all its tests joined by the
+    // compiler, and then a part of many slots took a quarter longer.
     fn slot_clashes(self, i: usize) -> u32
         requires { i < 64 }
         ensures most { result ≤ 64 }

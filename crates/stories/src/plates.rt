@@ -57,6 +57,7 @@ pub fn place_rows(rt: &impl Print, mut plate: Plate, table: &[u8]) -> io::Result
     Ok(plate)
 }
 
+// A row, from its colon on, put to the plate. Its name may be any bytes, and is written first.
 fn place_row(rt: &impl Print, plate: Plate, line: &[u8]) -> io::Result<Plate> {
     let (name, numbers) = line.split_at(until(line, 0, b':'));
     rt.write_all(name)?;
