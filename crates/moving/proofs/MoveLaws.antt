@@ -1,13 +1,17 @@
--- Numbers moved by steps: the list that comes out, and the way back; and one sum as the machine reads it. Assumes nothing.
-use Rattle.std.proofs.Common.{◌≡◌, refl, sym, ap, ◌∙◌, Bool, true, false, cond, ℕ, zero, suc, List, [], ◌∷◌, length, get_or, ℤ, pos, neg_ℤ, ◌+ℤ◌, w32, FitsSigned, to_z, of_z, arith}
+-- Numbers moved by steps: the list that comes out, and the way back; and one sum as the machine reads it, and as the code tests it. Assumes nothing.
+use Rattle.std.proofs.Common.{◌≡◌, refl, sym, ap, ◌∙◌, Bool, true, false, cond, ℕ, zero, suc, List, [], ◌∷◌, length, get_or, ℤ, pos, negsuc, neg_ℤ, ◌+ℤ◌, Option, Some, None, MatchOption, w32, FitsSigned, to_z, of_z, arith}
 use mir.Facts.{to_z-of_z}
+use Rattle.std.specs.Bool.{then_some}
 use Rattle.std.proofs.Common.{◌&&◌}
 use Rattle.std.specs.List.{list_all, zip}
 use Rattle.shape.specs.Flat.{all_below}
 use Rattle.checks.specs.Grid.{all_on}
+use Rattle.std.specs.Option.{SomeIff}
 use mathlib.Core.Path.{ap₂}
+use borrow.Author.Tests.{leb-true}
 use lib.IntN.{+ℤ_assoc, +ℤ_idl, +ℤ_invl}
 use lib.ListN.{get_or, length-map, get_or-map}
+use Rattle.exact.specs.Grid.{limit}
 use Rattle.shape.specs.Points.{moved}
 use Rattle.shape.proofs.Trading.{coord_moved}
 use Rattle.checks.specs.Grid.{on_grid}
@@ -50,6 +54,27 @@ moved_at back m xs i = coord_moved i (steps back m) xs ∙ ap (λ (z : ℤ). z +
 -- A step and a number that were read back from 32 bits make the same sum.
 pub sum_read : (back : Bool) {d x : ℤ} → FitsSigned w32 d → FitsSigned w32 x → step back (to_z w32 (of_z w32 d)) +ℤ to_z w32 (of_z w32 x) ≡ step back d +ℤ x
 sum_read back f g = λ i. step back (to_z-of_z f i) +ℤ to_z-of_z g i
+
+-- A number on the grid fits 32 bits.
+on_fits : (z : ℤ) → on_grid z ≡ true → FitsSigned w32 z
+on_fits (pos n) e = record { sfits = omega (arith, leb-true n limit e) }
+on_fits (negsuc n) e = record { sfits = omega (arith, leb-true (suc n) limit e) }
+
+-- A sum that fits, and of those the one that is on the grid. Told says how the code tests a number.
+pub landed_law : (Told : ℤ → Bool → Type 0) → ((x : ℤ) (b : Bool) → Told x b → b ≡ on_grid x) → (z : ℤ) (there r : Option ℤ)
+    → SomeIff there (FitsSigned w32 z) z → MatchOption there (r ≡ None) (λ x. (b : Bool) × Told x b × (r ≡ then_some b x))
+    → r ≡ cond (on_grid z) (Some z) None
+landed_law Told tells z None r unfit none = by_test (on_grid z) refl
+  where
+    by_test : (t : Bool) → on_grid z ≡ t → r ≡ cond t (Some z) None
+    by_test true e = absurd (unfit (on_fits z e))
+    by_test false e = none
+landed_law Told tells z (Some x) r fits some =
+    some.2 ∙ ap (λ (b : Bool). then_some b x) (tells x some.0 some.1) ∙ ap (λ (y : ℤ). then_some (on_grid y) y) fits.1 ∙ is (on_grid z)
+  where
+    is : (t : Bool) → then_some t z ≡ cond t (Some z) None
+    is true = refl
+    is false = refl
 
 -- ---- all sums
 -- A test of each i below n begins at 0 as well as at the end.

@@ -8,8 +8,10 @@ mod answers;
 mod calls;
 mod reading;
 mod tables;
+#[cfg(test)]
+mod tests;
 
 pub use answers::{Listed, Told, Valued, told_verdict};
 pub use calls::{flat, list, pair, segment, side, turn};
-pub use reading::{LONGEST, List, read_count, read_list, until};
+pub use reading::{LONGEST, List, read_count, read_list, take_list, until};
 pub use tables::{Lists, rows};

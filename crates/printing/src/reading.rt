@@ -1,6 +1,6 @@
 // Lists and numbers out of a line of text. Any bytes may stand there, and are read as something: where a number is asked for and no digit
-// stands, it is 0.
-ghost use Rattle.std.specs.Prelude.{◌≤◌, length};
+// stands, it is 0. `read_list` alone wants text, and gives all of its numbers or none.
+ghost use Rattle.std.specs.Prelude.{◌≤◌, length, IfSome};
 
 // The most numbers that a list of a row has.
 pub const LONGEST: usize = 18;
@@ -74,7 +74,7 @@ fn read_coordinate(text: &[u8]) -> (i32, &[u8]) {
 }
 
 // The numbers behind the first byte, a space before each, up to a semicolon or the end; 18 at most.
-pub fn read_list(text: &[u8]) -> List<'_>
+pub fn take_list(text: &[u8]) -> List<'_>
     ensures { result.count ≤ length result.numbers }
 {
     let mut numbers = [0; LONGEST];
@@ -97,4 +97,16 @@ pub fn read_list(text: &[u8]) -> List<'_>
         count: LONGEST,
         behind,
     }
+}
+
+// The numbers of a list, white space between them, in as much of the room as they need. There is none where the room is too small, or where
+// a word is no number.
+pub fn read_list<'a>(text: &str, room: &'a mut [i32]) -> Option<&'a [i32]>
+    ensures { IfSome result (λ numbers. length numbers.now ≤ length room.old) }
+{
+    let numbers = room.get_mut(..text.split_whitespace().count())?;
+    for (number, word) in numbers.iter_mut().zip(text.split_whitespace()) {
+        *number = word.parse().ok()?;
+    }
+    Some(numbers)
 }

@@ -1,10 +1,25 @@
--- How often an edge occurs: in one triangle, and in all. Assumes nothing.
+-- How often an edge occurs: among the three edges that the code compares, in one triangle, and in all. Assumes nothing.
 use Rattle.std.proofs.Common.{◌≡◌, refl, sym, ℕ, suc, ◌+◌, ◌*◌, ◌≤◌, Bool, true, false, cond, List, [], ◌∷◌, ◌++◌, length, ℤ, arith}
+use mir.Val.{bool_byte}
 use Rattle.std.specs.List.{sum_by}
 use Rattle.std.proofs.lemmas.List.Recursion.{is_sum_by}
 use Rattle.shape.specs.Lists.{held_by}
 use Rattle.shape.specs.Shells.{Edge, same_edge, edges_of, occurs}
 use Rattle.shape.specs.TriangleLists.{triangle_of, triangles_of}
+
+-- Three tests counted, as `occurs` counts them.
+abbrev pub three : Bool → Bool → Bool → ℕ
+three x y z = cond x (suc (cond y (suc (cond z 1 0)) (cond z 1 0))) (cond y (suc (cond z 1 0)) (cond z 1 0))
+
+pub three_times : (x y z : Bool) → bool_byte x + bool_byte y + bool_byte z ≡ three x y z
+three_times true true true = refl
+three_times true true false = refl
+three_times true false true = refl
+three_times true false false = refl
+three_times false true true = refl
+three_times false true false = refl
+three_times false false true = refl
+three_times false false false = refl
 
 -- How often in one triangle: at most three times.
 abbrev pub times_there : Edge → List ℤ → ℕ

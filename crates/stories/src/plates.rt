@@ -1,6 +1,6 @@
 // Rows of the calls on a plate: what a call answered, and the plate afterwards, which a row gives back.
 use plate::{Plate, PlateAnswer};
-use printing::{Told, read_count, read_list, told_verdict, until};
+use printing::{Told, read_count, take_list, told_verdict, until};
 use std::fmt::{self, Display};
 use std::io;
 
@@ -63,7 +63,7 @@ fn place_row(rt: &impl Print, plate: Plate, line: &[u8]) -> io::Result<Plate> {
     rt.write_all(name)?;
     let (slot, behind) = read_count(numbers);
     let (part, behind) = read_count(behind);
-    let list = read_list(behind);
+    let list = take_list(behind);
     plate_row(
         rt,
         "",
