@@ -1,4 +1,5 @@
-// What the programs `bench` and `further` print with, but for plates (crate `stories`): answers, and tables of rows.
+// What the programs `bench` and `further` print with, but for plates (crate `stories`): answers, and tables of rows; and, beside it, a list read out of
+// a text.
 //
 // A table is one text, a line a row: the row costs the prover next to nothing, where a call for each row would cost half a second.
 // The table is read when the program runs.

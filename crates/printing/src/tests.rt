@@ -1,4 +1,4 @@
-// What a list of text is read as, since no clause says it.
+// What `read_list` reads of a text, since no clause says it and no program calls it.
 use crate::read_list;
 
 fn reads(text: &str, room: &mut [i32], wanted: &[i32]) -> bool {
